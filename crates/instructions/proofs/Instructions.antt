@@ -1,0 +1,125 @@
+-- The op bytes that the building calls add do, by the Yellow Paper, what the calls are named after: a minimal push is one instruction that
+-- pushes its number, and no shorter push does; SWAP, DUP and exchange move the items they name. A stack has at most 1,024 items (maxStack).
+-- Assumes nothing.
+use Prim.Native.Nat.{ℕ, suc, _+_, _^_, _≤_, _<_}
+use native.Mathlib.Nat.{lt-of-lt-of-le}
+use native.Mathlib.Decide.{ℕ-discrete}
+use native.Mathlib.Omega.{arith}
+use mathlib.Core.Path.{_≡_, sym, ap, _∙_}
+use mathlib.Core.Bool.{true}
+use mathlib.Core.Logic.{_≢_}
+use mathlib.Core.List.{List, [], _∷_, _++_, append-nil}
+use mathlib.Core.Option.{some}
+use lib.ListN.{length, getD}
+use Rattle.units.specs.Numbers.{number, bigEndian, leastBytes}
+use Rattle.units.proofs.BigEndian.{number-bigEndian, number-lt, length-bigEndian, pow256-mono, leastBytes-fits, leastBytes-le, leastBytes-iff}
+use Rattle.store.specs.Calls.{minimalPush, pushOp, swapOp, dupOp, exchangeOps}
+use Rattle.evm.specs.YellowPaper.{maxStack, isPush, pushSize, instructionLength, codeByte, exchanged, step, run}
+use Rattle.evm.proofs.Steps.{pushSize-push, pushSize-le, instruction-dup, instruction-swap, instructionLength-above, step-dup, step-swap, run-one, length-exchanged, exchanged-first, exchanged-second, exchanged-other, exchanged-comm}
+use Rattle.instructions.proofs.Runs.{push-anywhere, pushed-number, run-three, exchangeOps-first, exchangeOps-second, exchangeOps-neither}
+
+-- ---- minimal pushes
+
+-- a minimal push pushes its number, wherever in a code it stands
+pub minimal-push-anywhere : (before after : List ℕ) (v : ℕ) (stack : List ℕ)
+    → v < 256 ^ 32
+    → length stack < maxStack
+    → step (before ++ (minimalPush v ++ after)) (length before) stack ≡ some (v ∷ stack)
+unfolding minimalPush
+minimal-push-anywhere before after v stack h room =
+    let n : ℕ = leastBytes 32 v in
+    push-anywhere before (bigEndian n v) after stack n (length-bigEndian n v) (leastBytes-le 32 v h) room
+    ∙ ap (λ (x : ℕ). some (x ∷ stack)) (number-bigEndian n v (leastBytes-fits 32 v h))
+
+-- a minimal push pushes its number
+pub minimal-push-step : (v : ℕ) (stack : List ℕ)
+    → v < 256 ^ 32
+    → length stack < maxStack
+    → step (minimalPush v) 0 stack ≡ some (v ∷ stack)
+minimal-push-step v stack h room =
+    ap (λ (c : List ℕ). step c 0 stack) (sym (append-nil (minimalPush v))) ∙ minimal-push-anywhere [] [] v stack h room
+
+-- a minimal push is one instruction
+pub minimal-push-one : (v : ℕ) → v < 256 ^ 32 → instructionLength (codeByte (minimalPush v) 0) ≡ length (minimalPush v)
+unfolding minimalPush instructionLength
+minimal-push-one v h =
+    let n : ℕ = leastBytes 32 v in
+    let s : pushSize (pushOp n) ≡ n = pushSize-push n (leastBytes-le 32 v h) in
+    let l : length (bigEndian n v) ≡ n = length-bigEndian n v in
+    omega arith
+
+-- the whole of it pushes its number and does nothing else
+pub minimal-push-run : (v : ℕ) (stack : List ℕ)
+    → v < 256 ^ 32
+    → length stack < maxStack
+    → run (minimalPush v) stack ≡ some (v ∷ stack)
+minimal-push-run v stack h room = run-one (minimalPush v) stack (v ∷ stack) (minimal-push-one v h) (minimal-push-step v stack h room)
+
+-- no shorter push instruction pushes the number: `code` is any one push instruction that does
+pub minimal-push-least : (v : ℕ) (code stack : List ℕ)
+    → ((i : ℕ) → codeByte code i < 256)
+    → isPush (codeByte code 0) ≡ true
+    → instructionLength (codeByte code 0) ≡ length code
+    → step code 0 stack ≡ some (v ∷ stack)
+    → length (minimalPush v) ≤ length code
+unfolding minimalPush instructionLength
+minimal-push-least v [] stack bytes p l e = omega arith
+minimal-push-least v (op ∷ imm) stack bytes p l e =
+    let s : pushSize op ≡ length imm = omega arith in
+    let q : v ≡ number imm = pushed-number op imm stack v p s e in
+    let below : v < 256 ^ length imm = rw q (number-lt imm (λ i. bytes (suc i))) in
+    let most : length imm ≤ 32 = omega (arith, pushSize-le op p) in
+    let least : leastBytes 32 v ≤ length imm = leastBytes-iff 32 v (length imm) (lt-of-lt-of-le below (pow256-mono most)) .1 below in
+    omega (arith, length-bigEndian (leastBytes 32 v) v)
+
+-- ---- SWAP, DUP and exchange
+
+-- what `exchanged` does to each item
+pub exchanged-items : (i j : ℕ) (stack : List ℕ)
+    → i < length stack
+    → j < length stack
+    → (length (exchanged i j stack) ≡ length stack)
+    × (getD (exchanged i j stack) i 0 ≡ getD stack j 0)
+    × (getD (exchanged i j stack) j 0 ≡ getD stack i 0)
+    × ((k : ℕ) → k ≢ i → k ≢ j → getD (exchanged i j stack) k 0 ≡ getD stack k 0)
+exchanged-items i j stack hi hj =
+    (length-exchanged i j stack, exchanged-first i j stack hi hj, exchanged-second i j stack hj, (λ k ni nj. exchanged-other i j k stack ni nj))
+
+-- SWAP of depth d exchanges the top and the item at depth d
+pub swap-run : (d : ℕ) (stack : List ℕ)
+    → 1 ≤ d
+    → d ≤ 16
+    → d < length stack
+    → length stack ≤ maxStack
+    → run (swapOp d ∷ []) stack ≡ some (exchanged 0 d stack)
+swap-run d stack l u deep fits =
+    run-one (swapOp d ∷ []) stack (exchanged 0 d stack)
+    (instructionLength-above (swapOp d) (omega arith))
+    (step-swap (swapOp d ∷ []) 0 stack d (instruction-swap d l u) deep fits)
+
+-- DUP of depth d pushes the item at depth d
+pub dup-run : (d : ℕ) (stack : List ℕ)
+    → d ≤ 15
+    → d < length stack
+    → length stack < maxStack
+    → run (dupOp d ∷ []) stack ≡ some (getD stack d 0 ∷ stack)
+dup-run d stack u deep room =
+    run-one (dupOp d ∷ []) stack (getD stack d 0 ∷ stack)
+    (instructionLength-above (dupOp d) (omega arith))
+    (step-dup (dupOp d ∷ []) 0 stack (d + 1) (instruction-dup d u) (omega arith) room ∙ ap (λ (k : ℕ). some (getD stack k 0 ∷ stack)) (omega arith))
+
+-- exchange of n and m exchanges the items at depths n and m
+pub exchange-run : (n m : ℕ) (stack : List ℕ)
+    → n ≢ m
+    → n ≤ 16
+    → m ≤ 16
+    → n < length stack
+    → m < length stack
+    → length stack ≤ maxStack
+    → run (exchangeOps n m) stack ≡ some (exchanged n m stack)
+exchange-run n m stack nm hn hm ln lm fits = go (ℕ-discrete n 0) (ℕ-discrete m 0)
+  where
+    go : Dec (n ≡ 0) → Dec (m ≡ 0) → run (exchangeOps n m) stack ≡ some (exchanged n m stack)
+    go (yes z) d = rw (z, exchangeOps-first m) (swap-run m stack (omega arith) hm lm fits)
+    go (no n0) (yes z) = rw (z, exchangeOps-second n n0, exchanged-comm n 0 stack n0) (swap-run n stack (omega arith) hn ln fits)
+    go (no n0) (no m0) = rw (exchangeOps-neither n m n0 m0) (run-three n m stack n0 m0 nm hn hm ln lm fits)

@@ -1,0 +1,13 @@
+pub mod Runs
+pub mod Moves
+pub mod Rule
+pub mod Today
+pub mod Walks
+pub mod Layouts
+pub mod Least
+pub mod Premises
+pub mod Settles
+pub mod Demand3
+pub mod Answers
+pub mod Hand
+pub mod Apart

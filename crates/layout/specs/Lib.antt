@@ -1,0 +1,5 @@
+pub mod Layout
+pub mod Passes
+pub mod Conditions
+pub mod Shortest
+pub mod Answer

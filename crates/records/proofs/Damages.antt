@@ -1,0 +1,246 @@
+-- Laws of the tests for number 6: one for each way that the code goes. Assumes nothing.
+use Prim.Native.Nat.{ℕ, zero, suc, _+_, _*_, _-_, _≤_, _<_}
+use native.Mathlib.Omega.{arith}
+use mathlib.Core.Path.{_≡_, refl, sym, _∙_, ap}
+use native.Mathlib.Nat.{sub-zero}
+use mathlib.Core.Bool.{Bool, true, false, not, cond, _&&_, true≢false}
+use native.Mathlib.Numerals.{add-one}
+use lib.Dec.{leb, ltb, eqb}
+use lib.ListN.{length}
+use borrow.Author.Tests.{lt-ltb, le-ltb, le-leb, lt-leb, eq-eqb, ne-eqb, leb-true, leb-false, not-false}
+use Rattle.records.specs.Record.{readSection}
+use Rattle.records.specs.Store.{Store, maxBytes, maxSections, sectionWords, badCounts}
+use Rattle.records.specs.Damage.{isSpan, brokenSection, brokenLast, endBefore, spansEnd, breaksRule, leastFrom, firstBroken, badCount, brokenReply, wholeSoundness, lastBroken, badCountBuilding, lastSoundness}
+use Rattle.records.specs.declared.record.AsmSection.{AsmSection}
+use Rattle.records.specs.declared.record.SectionRead.the-variants.{Read, Damaged}
+use Rattle.records.specs.declared.record.StoredSection.{StoredSection}
+use Rattle.records.specs.declared.damage.Soundness
+use Rattle.records.specs.declared.damage.Soundness.{Soundness}
+
+-- a test and the test the other way round
+pub ltb-not-leb : (a b : ℕ) → ltb a b ≡ not (leb b a)
+ltb-not-leb a b = go (leb b a) refl
+  where
+    go : (t : Bool) → leb b a ≡ t → ltb a b ≡ not t
+    go true e = le-ltb a b (leb-true b a e)
+    go false e = lt-ltb a b (leb-false b a e)
+
+-- counts beyond slices or limits
+module _ (w : ℕ) (st : Store) where
+  pub bytes-past-slice : length (st .bytes) < st .storedBytes → true ≡ badCounts w st
+  unfolding badCounts
+  bytes-past-slice h =
+      let a : leb (st .storedBytes) (length (st .bytes)) ≡ false = lt-leb _ _ h in
+      rw a
+
+  pub bytes-past-limit : st .storedBytes ≤ length (st .bytes) → maxBytes < st .storedBytes → true ≡ badCounts w st
+  unfolding badCounts
+  bytes-past-limit g h =
+      let a : leb (st .storedBytes) (length (st .bytes)) ≡ true = le-leb _ _ g in
+      let b : leb (st .storedBytes) maxBytes ≡ false = lt-leb _ _ h in
+      rw (a, b)
+
+  pub sections-past-limit : st .storedBytes ≤ length (st .bytes) → st .storedBytes ≤ maxBytes → maxSections < st .sections → true ≡ badCounts w st
+  unfolding badCounts
+  sections-past-limit g h k =
+      let a : leb (st .storedBytes) (length (st .bytes)) ≡ true = le-leb _ _ g in
+      let b : leb (st .storedBytes) maxBytes ≡ true = le-leb _ _ h in
+      let c : leb (st .sections) maxSections ≡ false = lt-leb _ _ k in
+      rw (a, b, c)
+
+  pub words-past-slice : st .storedBytes ≤ length (st .bytes) → st .storedBytes ≤ maxBytes → st .sections ≤ maxSections → ltb (length (st .words)) (w * st .sections) ≡ badCounts w st
+  unfolding badCounts
+  words-past-slice g h k =
+      let a : leb (st .storedBytes) (length (st .bytes)) ≡ true = le-leb _ _ g in
+      let b : leb (st .storedBytes) maxBytes ≡ true = le-leb _ _ h in
+      let c : leb (st .sections) maxSections ≡ true = le-leb _ _ k in
+      rw (a, b, c) (ltb-not-leb (length (st .words)) (w * st .sections))
+
+-- a last section
+module _ (r : StoredSection) (stored : ℕ) where
+  pub last-unreadable : readSection r ≡ Damaged → true ≡ brokenLast r stored
+  last-unreadable e = rw e
+
+  pub last-span : (s : AsmSection) → readSection r ≡ Read s → isSpan (r .kind) ≡ true → not (eqb (r .second) stored) ≡ brokenLast r stored
+  last-span s e t = rw (e, t)
+
+  pub last-other : (s : AsmSection) → readSection r ≡ Read s → isSpan (r .kind) ≡ false → false ≡ brokenLast r stored
+  last-other s e t = rw (e, t)
+
+-- any section
+module _ (r : StoredSection) (previous : ℕ) (isLast : Bool) (stored : ℕ) where
+  pub any-unreadable : readSection r ≡ Damaged → true ≡ brokenSection r previous isLast stored
+  any-unreadable e = rw e
+
+  pub any-other : (s : AsmSection) → readSection r ≡ Read s → isSpan (r .kind) ≡ false → false ≡ brokenSection r previous isLast stored
+  any-other s e t = rw (e, t)
+
+  pub any-start : (s : AsmSection) → readSection r ≡ Read s → isSpan (r .kind) ≡ true → (r .first ≡ previous → ⊥) → true ≡ brokenSection r previous isLast stored
+  any-start s e t n =
+      let u : eqb (r .first) previous ≡ false = ne-eqb _ _ n in
+      rw (e, t, u)
+
+  pub any-last : (s : AsmSection) → readSection r ≡ Read s → isSpan (r .kind) ≡ true → r .first ≡ previous → isLast ≡ true → not (eqb (r .second) stored) ≡ brokenSection r previous isLast stored
+  any-last s e t n l =
+      let u : eqb (r .first) previous ≡ true = eq-eqb _ _ n in
+      rw (e, t, u, l)
+
+  pub any-inner : (s : AsmSection) → readSection r ≡ Read s → isSpan (r .kind) ≡ true → r .first ≡ previous → isLast ≡ false → false ≡ brokenSection r previous isLast stored
+  any-inner s e t n l =
+      let u : eqb (r .first) previous ≡ true = eq-eqb _ _ n in
+      rw (e, t, u, l)
+
+-- the walk back over the sections to the last Ops or Data section
+module _ (w : ℕ) (st : Store) where
+  pub spans-hit : (n k : ℕ) → 0 < n → k ≡ n - 1 → isSpan (sectionWords w st k .kind) ≡ true → spansEnd w st n ≡ n
+  unfolding spansEnd
+  spans-hit zero k l e t = absurd (omega arith)
+  spans-hit (suc n) k l e t =
+      let same : k ≡ n = omega arith in
+      let u : isSpan (sectionWords w st n .kind) ≡ true = rw same at t in
+      rw u
+
+  pub spans-miss : (n k : ℕ) → 0 < n → k ≡ n - 1 → isSpan (sectionWords w st k .kind) ≡ false → spansEnd w st n ≡ spansEnd w st k
+  unfolding spansEnd
+  spans-miss zero k l e t = absurd (omega arith)
+  spans-miss (suc n) k l e t =
+      let same : k ≡ n = omega arith in
+      let u : isSpan (sectionWords w st n .kind) ≡ false = rw same at t in
+      rw (u, same)
+
+  pub spans-none : spansEnd w st 0 ≡ 0
+  unfolding spansEnd
+  spans-none = refl
+
+-- the walk forward over the sections
+module _ (w : ℕ) (st : Store) where
+  pub end-none : endBefore w st 0 ≡ 0
+  unfolding endBefore
+  end-none = refl
+
+  pub end-next : (i : ℕ) → endBefore w st (i + 1) ≡ cond (isSpan (sectionWords w st i .kind)) (sectionWords w st i .second) (endBefore w st i)
+  unfolding endBefore
+  end-next i = rw add-one
+
+  -- a section that breaks a rule is the first
+  pub least-hit : (test : ℕ → Bool) (k i : ℕ) → 0 < k → test i ≡ true → leastFrom test k i ≡ i
+  unfolding leastFrom
+  least-hit test zero i l t = absurd (omega arith)
+  least-hit test (suc k) i l t = rw t
+
+  -- one that breaks none is passed
+  pub least-miss : (test : ℕ → Bool) (k i : ℕ) → 0 < k → test i ≡ false → leastFrom test k i ≡ leastFrom test (k - 1) (i + 1)
+  unfolding leastFrom
+  least-miss test zero i l t = absurd (omega arith)
+  least-miss test (suc k) i l t =
+      let e : suc k - 1 ≡ k = omega arith in
+      rw (t, e, add-one)
+
+  pub least-none : (test : ℕ → Bool) (i : ℕ) → leastFrom test 0 i ≡ i
+  unfolding leastFrom
+  least-none test i = refl
+
+-- a walk over the sections that has found none broken before i, with the end of the last Ops or Data section before it
+abbrev pub Walked : ℕ → Store → ℕ → ℕ → Type 0
+Walked w st i end = (i ≤ st .sections) × (end ≡ endBefore w st i) × (leastFrom (breaksRule w st) (st .sections - i) i ≡ firstBroken w st)
+
+module _ (w : ℕ) (st : Store) where
+  pub walk-start : Walked w st 0 0
+  walk-start = (omega arith, sym (end-none w st), ap (λ (k : ℕ). leastFrom (breaksRule w st) k 0) (sub-zero (st .sections)))
+
+  -- what the code tests of section i is that it breaks a rule
+  pub walk-test :
+      (i end spans : ℕ) (r : StoredSection) → r ≡ sectionWords w st i → end ≡ endBefore w st i → spans ≡ spansEnd w st (st .sections)
+      → brokenSection r end (eqb (i + 1) spans) (st .storedBytes) ≡ breaksRule w st i
+  unfolding breaksRule
+  walk-test i end spans r er ee es = rw (er, ee, es, add-one i)
+
+  pub walk-next :
+      (i end next : ℕ) → Walked w st i end → i < st .sections → breaksRule w st i ≡ false
+      → next ≡ cond (isSpan (sectionWords w st i .kind)) (sectionWords w st i .second) end → Walked w st (i + 1) next
+  walk-next i end next h l b e =
+      let k : 0 < st .sections - i = omega arith in
+      let j : st .sections - i - 1 ≡ st .sections - (i + 1) = omega arith in (
+        omega arith,
+        e ∙ ap (cond (isSpan (sectionWords w st i .kind)) (sectionWords w st i .second)) (h .1) ∙ sym (end-next w st i),
+        ap (λ (n : ℕ). leastFrom (breaksRule w st) n (i + 1)) (sym j) ∙ sym (least-miss w st (breaksRule w st) (st .sections - i) i k b) ∙ h .2,
+      )
+
+  pub walk-broken : (i end : ℕ) → Walked w st i end → i < st .sections → breaksRule w st i ≡ true → Soundness.Damaged i ≡ brokenReply w st
+  unfolding brokenReply
+  walk-broken i end h l b =
+      let k : 0 < st .sections - i = omega arith in
+      let e : firstBroken w st ≡ i = sym (h .2) ∙ least-hit w st (breaksRule w st) (st .sections - i) i k b in
+      let t : ltb i (st .sections) ≡ true = lt-ltb _ _ l in
+      rw (e, t)
+
+  pub walk-done : (i end : ℕ) → Walked w st i end → st .sections ≤ i → Soundness.Sound ≡ brokenReply w st
+  unfolding brokenReply
+  walk-done i end h l =
+      let k : st .sections - i ≡ 0 = omega arith in
+      let e : firstBroken w st ≡ i = sym (h .2) ∙ ap (λ (n : ℕ). leastFrom (breaksRule w st) n i) k ∙ least-none w st (breaksRule w st) i in
+      let t : ltb i (st .sections) ≡ false = le-ltb _ _ l in
+      rw (e, t)
+
+  -- the whole test
+  pub whole-counts : badCounts w st ≡ true → Soundness.Damaged 0 ≡ wholeSoundness w st
+  unfolding wholeSoundness badCount
+  whole-counts e = rw e
+
+  pub whole-unheld : badCounts w st ≡ false → (ltb 0 (st .storedBytes) && eqb (spansEnd w st (st .sections)) 0) ≡ true → Soundness.Damaged 0 ≡ wholeSoundness w st
+  unfolding wholeSoundness badCount
+  whole-unheld e t = rw (e, t)
+
+  pub whole-sections : badCounts w st ≡ false → (ltb 0 (st .storedBytes) && eqb (spansEnd w st (st .sections)) 0) ≡ false → brokenReply w st ≡ wholeSoundness w st
+  unfolding wholeSoundness badCount
+  whole-sections e t = rw (e, t)
+
+  -- a building call's test
+  pub last-counts : badCounts w st ≡ true → Soundness.Damaged 0 ≡ lastSoundness w st
+  unfolding lastSoundness badCountBuilding
+  last-counts e = rw e
+
+  pub last-unheld : badCounts w st ≡ false → (ltb 0 (st .storedBytes) && eqb (st .sections) 0) ≡ true → Soundness.Damaged 0 ≡ lastSoundness w st
+  unfolding lastSoundness badCountBuilding
+  last-unheld e t = rw (e, t)
+
+  pub last-none : badCounts w st ≡ false → (ltb 0 (st .storedBytes) && eqb (st .sections) 0) ≡ false → st .sections ≡ 0 → Soundness.Sound ≡ lastSoundness w st
+  unfolding lastSoundness badCountBuilding
+  last-none e t z =
+      let u : ltb 0 (st .sections) ≡ false = le-ltb 0 (st .sections) (omega arith) in
+      rw (e, t, u)
+
+  pub last-damaged :
+      badCounts w st ≡ false → (ltb 0 (st .storedBytes) && eqb (st .sections) 0) ≡ false → (st .sections ≡ 0 → ⊥)
+      → brokenLast (sectionWords w st (st .sections - 1)) (st .storedBytes) ≡ true → Soundness.Damaged (st .sections - 1) ≡ lastSoundness w st
+  unfolding lastSoundness badCountBuilding lastBroken
+  last-damaged e t z b =
+      let u : ltb 0 (st .sections) ≡ true = lt-ltb 0 (st .sections) (omega arith) in
+      rw (e, t, u, b)
+
+  pub last-sound :
+      badCounts w st ≡ false → (ltb 0 (st .storedBytes) && eqb (st .sections) 0) ≡ false → (st .sections ≡ 0 → ⊥)
+      → brokenLast (sectionWords w st (st .sections - 1)) (st .storedBytes) ≡ false → Soundness.Sound ≡ lastSoundness w st
+  unfolding lastSoundness badCountBuilding lastBroken
+  last-sound e t z b =
+      let u : ltb 0 (st .sections) ≡ true = lt-ltb 0 (st .sections) (omega arith) in
+      rw (e, t, u, b)
+
+  -- where the counts are good, bytes and sections fit slices and limits
+  good : badCounts w st ≡ false → (st .storedBytes ≤ length (st .bytes)) × (st .storedBytes ≤ maxBytes) × (st .sections ≤ maxSections) × (w * st .sections ≤ length (st .words))
+  unfolding badCounts
+  good e =
+      let h = all-true (leb (st .storedBytes) (length (st .bytes))) (leb (st .storedBytes) maxBytes) (leb (st .sections) maxSections) (leb (w * st .sections) (length (st .words))) (not-false _ e) in
+      (leb-true _ _ (h .0), leb-true _ _ (h .1), leb-true _ _ (h .2), leb-true _ _ (h .3))
+    where
+      all-true : (a b c d : Bool) → (a && b && c && d) ≡ true → (a ≡ true) × (b ≡ true) × (c ≡ true) × (d ≡ true)
+      all-true true true true d h = (refl, refl, refl, h)
+      all-true true true false d h = absurd (true≢false (sym h))
+      all-true true false c d h = absurd (true≢false (sym h))
+      all-true false b c d h = absurd (true≢false (sym h))
+
+  pub good-words : badCounts w st ≡ false → w * st .sections ≤ length (st .words)
+  good-words e = good e .3
+
+  pub good-bytes : badCounts w st ≡ false → (st .storedBytes ≤ length (st .bytes)) × (st .storedBytes ≤ maxBytes)
+  good-bytes e = (good e .0, good e .1)

@@ -1,0 +1,4 @@
+pub mod Record
+pub mod Store
+pub mod Damage
+pub mod Sections

@@ -1,0 +1,185 @@
+// The tests for number 6: the whole store's, and the lesser one of a building call.
+use crate::Assembler;
+use crate::record::SectionRead;
+use crate::record::StoredSection;
+use crate::record::read_section;
+ghost use mathlib.Core.Path.{_≡_};
+ghost use mathlib.Core.Bool.{cond, _&&_};
+ghost use Prim.Native.Nat.{_+_, _*_, _≤_};
+ghost use lib.Dec.{ltb, eqb};
+ghost use lib.ListN.{length};
+ghost use Rattle.records.specs.Store.{storeOf, wordsPerSection, wordsAt, badCounts};
+ghost use Rattle.records.specs.Damage.{isSpan, spansEnd, brokenSection, brokenLast, brokenReply, wholeSoundness, lastSoundness};
+
+// Sound, or the section that number 6 reports.
+pub enum Soundness {
+    Sound,
+    Damaged(u32),
+}
+
+// The whole test: bad counts first, then the first section that breaks a rule.
+pub fn check_store(store: Assembler, bytes: &[u8], words: &[u32]) -> Soundness
+    ensures { λ r. ⌜ r ≡ wholeSoundness wordsPerSection (storeOf store (now (bytes .entry)) (now (words .entry))) ⌝ }
+{
+    if counts_are_bad(store, bytes, words) {
+        return Soundness::Damaged(0);
+    }
+    let spans = spans_end(store, bytes, words);
+    if bytes_unheld(store.bytes, spans) {
+        return Soundness::Damaged(0);
+    }
+    check_sections(store, bytes, words, spans)
+}
+
+// A building call's test: the counts, and the last section only.
+pub fn check_last(store: Assembler, bytes: &[u8], words: &[u32]) -> Soundness
+    ensures { λ r. ⌜ r ≡ lastSoundness wordsPerSection (storeOf store (now (bytes .entry)) (now (words .entry))) ⌝ }
+{
+    if counts_are_bad(store, bytes, words) {
+        return Soundness::Damaged(0);
+    }
+    if bytes_unheld(store.bytes, store.sections) {
+        return Soundness::Damaged(0);
+    }
+    let sections = store.sections;
+    if sections == 0 {
+        return Soundness::Sound;
+    }
+    let last = sections - 1;
+    if broken_last(section_words(words, last as usize), store.bytes) {
+        Soundness::Damaged(last)
+    } else {
+        Soundness::Sound
+    }
+}
+
+// Counts beyond slices or limits.
+fn counts_are_bad(store: Assembler, bytes: &[u8], words: &[u32]) -> bool
+    ensures { λ r. ⌜ r ≡ badCounts wordsPerSection (storeOf store (now (bytes .entry)) (now (words .entry))) ⌝ }
+{
+    if bytes.len() < store.bytes as usize {
+        return true;
+    }
+    if Assembler::MAX_BYTES < store.bytes {
+        return true;
+    }
+    if Assembler::MAX_SECTIONS < store.sections {
+        return true;
+    }
+    words.len() < Assembler::WORDS * (store.sections as usize)
+}
+
+// Bytes are stored, and there is nothing to hold them.
+fn bytes_unheld(stored: u32, holders: u32) -> bool
+    ensures { λ r. ⌜ r ≡ (ltb 0 stored && eqb holders 0) ⌝ }
+{
+    if stored == 0 {
+        return false;
+    }
+    holders == 0
+}
+
+// The three words of section i.
+fn section_words(words: &[u32], i: usize) -> StoredSection
+    requires { ⌜ wordsPerSection * (i + 1) ≤ length (now words) ⌝ }
+    ensures { λ r. ⌜ r ≡ wordsAt wordsPerSection (now (words .entry)) i ⌝ }
+{
+    let at = Assembler::WORDS * i;
+    StoredSection {
+        kind: words[at],
+        first: words[at + 1],
+        second: words[at + 2],
+    }
+}
+
+// An Ops or Data section, by its kind word.
+fn is_span(kind: u32) -> bool
+    ensures { λ r. ⌜ r ≡ isSpan kind ⌝ }
+{
+    if kind == 1 {
+        return true;
+    }
+    kind == 2
+}
+
+// How many sections there are up to and with the last Ops or Data section.
+fn spans_end(store: Assembler, bytes: &[u8], words: &[u32]) -> u32
+    requires { ⌜ wordsPerSection * (store .sections) ≤ length (now words) ⌝ }
+    ensures { λ r. ⌜ r ≡ spansEnd wordsPerSection (storeOf store (now (bytes .entry)) (now (words .entry))) (store .sections) ⌝ }
+{
+    let mut passed: u32 = 0;
+    while passed < store.sections {
+        let n = store.sections - passed;
+        let section = section_words(words, (n - 1) as usize);
+        if is_span(section.kind) {
+            return n;
+        }
+        passed += 1;
+    }
+    0
+}
+
+// A section that can't be read, starts elsewhere than at the previous end, or, the last with bytes, ends elsewhere than at the stored count.
+fn broken_section(section: StoredSection, previous_end: u32, is_last: bool, stored: u32) -> bool
+    ensures { λ r. ⌜ r ≡ brokenSection section «previous_end» «is_last» stored ⌝ }
+{
+    let SectionRead::Read(_) = read_section(section) else {
+        return true;
+    };
+    if !is_span(section.kind) {
+        return false;
+    }
+    if section.first != previous_end {
+        return true;
+    }
+    if is_last {
+        section.second != stored
+    } else {
+        false
+    }
+}
+
+// A last section that can't be read or, with bytes, ends elsewhere than at the stored count.
+fn broken_last(section: StoredSection, stored: u32) -> bool
+    ensures { λ r. ⌜ r ≡ brokenLast section stored ⌝ }
+{
+    let SectionRead::Read(_) = read_section(section) else {
+        return true;
+    };
+    if is_span(section.kind) {
+        section.second != stored
+    } else {
+        false
+    }
+}
+
+// The end of the last Ops or Data section, with one section more.
+fn next_end(section: StoredSection, end: u32) -> u32
+    ensures { λ r. ⌜ r ≡ cond (isSpan (section .kind)) (section .second) end ⌝ }
+{
+    if is_span(section.kind) {
+        section.second
+    } else {
+        end
+    }
+}
+
+// The first section that breaks a rule.
+fn check_sections(store: Assembler, bytes: &[u8], words: &[u32], spans: u32) -> Soundness
+    requires { ⌜ wordsPerSection * (store .sections) ≤ length (now words) ⌝ }
+    requires { ⌜ spans ≡ spansEnd wordsPerSection (storeOf store (now bytes) (now words)) (store .sections) ⌝ }
+    ensures { λ r. ⌜ r ≡ brokenReply wordsPerSection (storeOf store (now (bytes .entry)) (now (words .entry))) ⌝ }
+{
+    let mut i: u32 = 0;
+    let mut end: u32 = 0;
+    while i < store.sections {
+        let section = section_words(words, i as usize);
+        let next = i + 1;
+        if broken_section(section, end, next == spans, store.bytes) {
+            return Soundness::Damaged(i);
+        }
+        end = next_end(section, end);
+        i = next;
+    }
+    Soundness::Sound
+}

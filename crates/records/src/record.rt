@@ -1,0 +1,174 @@
+// One section: read from its three words, and a reference put into words. Nothing else reads or makes a section's words.
+use crate::Assembler;
+use units::AsmBytesIdx;
+use units::AsmReference;
+use units::BytesSpan;
+use units::MarkId;
+use units::MarkReference;
+use units::MarkSpan;
+use units::RefSize;
+use units::SetSize;
+ghost use mathlib.Core.Path.{_≡_};
+ghost use Prim.Native.Nat.{_≤_};
+ghost use Rattle.records.specs.Record.{readSection, readMark, readSpan, readDirect, readDelta, readRef, setSizeOf, sizeNumber, referenceWords};
+
+// A section as it is read back.
+pub enum AsmSection {
+    Mark(MarkId),
+    Ops(BytesSpan),
+    Data(BytesSpan),
+    MarkRef(AsmReference),
+}
+
+// What three words are read as.
+pub enum SectionRead {
+    Read(AsmSection),
+    Damaged,
+}
+
+// The three words of a section.
+pub struct StoredSection {
+    pub kind: u32,
+    pub first: u32,
+    pub second: u32,
+}
+
+// The section that three words stand for, or damaged: an unlisted kind or field, a mark number too large, a start past its end.
+pub fn read_section(words: StoredSection) -> SectionRead
+    ensures { λ r. ⌜ r ≡ readSection words ⌝ }
+{
+    let kind = words.kind;
+    let first = words.first;
+    let second = words.second;
+    match kind {
+        0 => read_mark(first, second),
+        1 => read_ops(first, second),
+        2 => read_data(first, second),
+        3 => read_direct(first, second),
+        4..=8 => read_delta(kind - 4, true, first, second),
+        9..=13 => read_delta(kind - 9, false, first, second),
+        _ => SectionRead::Damaged,
+    }
+}
+
+fn read_mark(first: u32, second: u32) -> SectionRead
+    ensures { λ r. ⌜ r ≡ readMark first second ⌝ }
+{
+    if first > Assembler::MAX_MARK {
+        return SectionRead::Damaged;
+    }
+    if second == 0 {
+        SectionRead::Read(AsmSection::Mark(MarkId(first)))
+    } else {
+        SectionRead::Damaged
+    }
+}
+
+fn read_ops(first: u32, second: u32) -> SectionRead
+    ensures { λ r. ⌜ r ≡ readSpan AsmSection.Ops first second ⌝ }
+{
+    if first > second {
+        return SectionRead::Damaged;
+    }
+    SectionRead::Read(AsmSection::Ops(BytesSpan {
+        start: AsmBytesIdx(first),
+        end: AsmBytesIdx(second),
+    }))
+}
+
+fn read_data(first: u32, second: u32) -> SectionRead
+    ensures { λ r. ⌜ r ≡ readSpan AsmSection.Data first second ⌝ }
+{
+    if first > second {
+        return SectionRead::Damaged;
+    }
+    SectionRead::Read(AsmSection::Data(BytesSpan {
+        start: AsmBytesIdx(first),
+        end: AsmBytesIdx(second),
+    }))
+}
+
+fn read_direct(first: u32, second: u32) -> SectionRead
+    ensures { λ r. ⌜ r ≡ readDirect first second ⌝ }
+{
+    if first > Assembler::MAX_MARK {
+        return SectionRead::Damaged;
+    }
+    match second {
+        0..=4 => read_ref(MarkReference::Direct(MarkId(first)), second, false),
+        8..=12 => read_ref(MarkReference::Direct(MarkId(first)), second - 8, true),
+        _ => SectionRead::Damaged,
+    }
+}
+
+fn read_delta(size: u32, pushed: bool, first: u32, second: u32) -> SectionRead
+    ensures { λ r. ⌜ r ≡ readDelta size pushed first second ⌝ }
+{
+    if first > Assembler::MAX_MARK {
+        return SectionRead::Damaged;
+    }
+    if second > Assembler::MAX_MARK {
+        return SectionRead::Damaged;
+    }
+    read_ref(
+        MarkReference::Delta(MarkSpan {
+            start: MarkId(first),
+            end: MarkId(second),
+        }),
+        size,
+        pushed,
+    )
+}
+
+fn read_ref(mark_ref: MarkReference, size: u32, pushed: bool) -> SectionRead
+    ensures { λ r. ⌜ r ≡ readRef «mark_ref» size pushed ⌝ }
+{
+    SectionRead::Read(AsmSection::MarkRef(AsmReference {
+        mark_ref,
+        set_size: set_size_of(size),
+        pushed,
+    }))
+}
+
+// The set size that 0 (unsized) to 4 stand for.
+fn set_size_of(size: u32) -> SetSize
+    ensures { λ r. ⌜ r ≡ setSizeOf size ⌝ }
+{
+    match size {
+        0 => SetSize::Unsized,
+        1 => SetSize::Sized(RefSize::S1),
+        2 => SetSize::Sized(RefSize::S2),
+        3 => SetSize::Sized(RefSize::S3),
+        _ => SetSize::Sized(RefSize::S4),
+    }
+}
+
+// A set size as a number, 0 if unsized.
+fn size_number(set_size: SetSize) -> u32
+    ensures { λ r. ⌜ (r ≡ sizeNumber «set_size») × (r ≤ 4) ⌝ }
+{
+    match set_size {
+        SetSize::Unsized => 0,
+        SetSize::Sized(size) => size.bytes(),
+    }
+}
+
+// The three words of a reference.
+pub fn reference_words(r: AsmReference) -> StoredSection
+    ensures { λ s. ⌜ s ≡ referenceWords r ⌝ }
+{
+    let mark_ref = r.mark_ref;
+    let size = size_number(r.set_size);
+    match mark_ref {
+        MarkReference::Direct(id) => StoredSection {
+            kind: 3,
+            first: id.0,
+            second: if r.pushed { size + 8 } else { size },
+        },
+        MarkReference::Delta(span) => StoredSection {
+            kind: if r.pushed { size + 4 } else { size + 9 },
+            first: span.start.0,
+            second: span.end.0,
+        },
+    }
+}

@@ -1,0 +1,76 @@
+-- What the laws of the building calls say: when each answer is given, what an accepted call makes of an undamaged store, what a call
+-- leaves alone, and that every call of a list was accepted. Assumes nothing.
+use Prim.Native.Nat.{ℕ, _*_, _≤_}
+use mathlib.Core.Path.{_≡_}
+use mathlib.Core.Logic.{_↔_}
+use mathlib.Core.Bool.{Bool, true, false}
+use mathlib.Core.List.{List, [], _∷_}
+use lib.ListN.{length, drop}
+use Rattle.units.specs.Replies.{Reply, stored, refused, badDepth, badWord, largeMark, bytesFull, sectionsFull, damaged}
+use Rattle.records.specs.declared.damage.Soundness.{Soundness}
+use Rattle.records.specs.declared.damage.Soundness.the-variants.{Sound, Damaged}
+use Rattle.records.specs.Store.{Store}
+use Rattle.records.specs.Damage.{lastSoundness}
+use Rattle.records.specs.Sections.{decode}
+use Rattle.store.specs.Calls.{Push, Call, hasBadDepth, hasBadWord, hasLargeMark, added, withSection, bytesPass, sectionPasses, pushReply, callAfter}
+use Rattle.store.specs.Lists.{callList}
+use Rattle.store_view.specs.View.{Undamaged}
+
+-- no test of a list passes
+abbrev pub NoneOf : List Bool → Type 0
+NoneOf [] = Unit {0}
+NoneOf (b ∷ bs) = (b ≡ false) × NoneOf bs
+
+-- a test that found a section
+abbrev pub unsound : Soundness → Bool
+unsound Sound = false
+unsound (Damaged i) = true
+
+-- a condition holds and none of the earlier ones does; the refusal's section and passes are 0
+abbrev pub First : List Bool → Bool → ℕ → ℕ → Type 0
+First earlier condition i k = NoneOf earlier × (condition ≡ true) × (i ≡ 0) × (k ≡ 0)
+
+-- when a call that adds to a store answers what, in the order 1, 2, 3, 6, 4, 5; there is no other answer
+pub record PushAnswers (w : ℕ) (p : Push) (st : Store) : Type 0 where
+  pub badDepth-iff : (i k : ℕ) → (pushReply w p st ≡ refused badDepth i k) ↔ First [] (hasBadDepth p) i k
+  pub badWord-iff : (i k : ℕ) → (pushReply w p st ≡ refused badWord i k) ↔ First (hasBadDepth p ∷ []) (hasBadWord p) i k
+  pub largeMark-iff : (i k : ℕ) → (pushReply w p st ≡ refused largeMark i k) ↔ First (hasBadDepth p ∷ hasBadWord p ∷ []) (hasLargeMark p) i k
+  pub damaged-iff : (i k : ℕ)
+      → (pushReply w p st ≡ refused damaged i k)
+      ↔ (NoneOf (hasBadDepth p ∷ hasBadWord p ∷ hasLargeMark p ∷ []) × (lastSoundness w st ≡ Damaged i) × (k ≡ 0))
+  pub bytesFull-iff : (i k : ℕ)
+      → (pushReply w p st ≡ refused bytesFull i k)
+      ↔ First (hasBadDepth p ∷ hasBadWord p ∷ hasLargeMark p ∷ unsound (lastSoundness w st) ∷ []) (bytesPass (added p) st) i k
+  pub sectionsFull-iff : (i k : ℕ)
+      → (pushReply w p st ≡ refused sectionsFull i k)
+      ↔ First (hasBadDepth p ∷ hasBadWord p ∷ hasLargeMark p ∷ unsound (lastSoundness w st) ∷ bytesPass (added p) st ∷ []) (sectionPasses w (added p) st) i k
+  pub stored-iff : (b s : ℕ)
+      → (pushReply w p st ≡ stored b s)
+      ↔ (NoneOf (hasBadDepth p ∷ hasBadWord p ∷ hasLargeMark p ∷ unsound (lastSoundness w st) ∷ bytesPass (added p) st ∷ sectionPasses w (added p) st ∷ [])
+      × (b ≡ withSection w (added p) st .storedBytes)
+      × (s ≡ withSection w (added p) st .sections))
+  pub numbers : (n i k : ℕ) → pushReply w p st ≡ refused n i k → (1 ≤ n) × (n ≤ 6)
+
+-- an accepted call on an undamaged store: undamaged again, the list as `callList` has it, and the answer is the counts
+pub record Accepted (w : ℕ) (c : Call) (st : Store) (b s : ℕ) : Type 0 where
+  pub undamaged : Undamaged w (callAfter w c st)
+  pub list : decode w (callAfter w c st) ≡ callList c (decode w st)
+  pub bytes : b ≡ callAfter w c st .storedBytes
+  pub sections : s ≡ callAfter w c st .sections
+
+-- both slices keep their length, and what they hold past the counts after a call
+pub record Kept (w : ℕ) (before after : Store) : Type 0 where
+  pub bytesLength : length (after .bytes) ≡ length (before .bytes)
+  pub wordsLength : length (after .words) ≡ length (before .words)
+  pub bytesPast : drop (after .storedBytes) (after .bytes) ≡ drop (after .storedBytes) (before .bytes)
+  pub wordsPast : drop (w * after .sections) (after .words) ≡ drop (w * after .sections) (before .words)
+
+-- an accepted call
+abbrev pub IsStored : Reply → Type 0
+IsStored (stored b s) = Unit {0}
+IsStored (refused n i k) = ⊥
+
+-- every call of a list was accepted
+abbrev pub EveryStored : List Reply → Type 0
+EveryStored [] = Unit {0}
+EveryStored (r ∷ rs) = IsStored r × EveryStored rs

@@ -1,0 +1,83 @@
+-- Document 01, 'Replies': what is answered, in the paper's numbers; and the number, section and passes of each refusal.
+-- Contracts speak of an answer through these definitions alone. Assumes nothing.
+use Prim.Native.Nat.{ℕ}
+use Rattle.units.specs.declared.reply.RefusalNumbers.{RefusalNumbers}
+use Rattle.units.specs.declared.reply.Refusal.{Refusal}
+use Rattle.units.specs.declared.reply.Refusal.the-variants.{BadDepth, BadWord, LargeMark, BytesFull, SectionsFull, Damaged, ShortTable, Unplaced, PlacedApart, TooNarrow, Unsettled, Backward, ResultFull, ListingFull}
+
+pub data Reply : Type 0 where
+  -- a building call was accepted: the counts of stored bytes and of sections after it
+  stored : ℕ → ℕ → Reply
+  -- number, section, passes made
+  refused : ℕ → ℕ → ℕ → Reply
+
+-- the numbers of the table of replies
+abbrev pub badDepth : ℕ
+badDepth = 1
+
+abbrev pub badWord : ℕ
+badWord = 2
+
+abbrev pub largeMark : ℕ
+largeMark = 3
+
+abbrev pub bytesFull : ℕ
+bytesFull = 4
+
+abbrev pub sectionsFull : ℕ
+sectionsFull = 5
+
+abbrev pub damaged : ℕ
+damaged = 6
+
+abbrev pub shortTable : ℕ
+shortTable = 7
+
+abbrev pub unplaced : ℕ
+unplaced = 8
+
+abbrev pub placedApart : ℕ
+placedApart = 9
+
+abbrev pub tooNarrow : ℕ
+tooNarrow = 10
+
+abbrev pub unsettled : ℕ
+unsettled = 11
+
+abbrev pub backward : ℕ
+backward = 12
+
+abbrev pub resultFull : ℕ
+resultFull = 13
+
+abbrev pub listingFull : ℕ
+listingFull = 14
+
+-- the passes allowed; those made when number 11 is given
+abbrev pub maxPasses : ℕ
+maxPasses = 1024
+
+abbrev pub numbersAt : ℕ → ℕ → ℕ → RefusalNumbers
+numbersAt n i k = record { number = n; section = i; passes = k }
+
+-- the one definition of the number, section and passes that each refusal stands for
+abbrev pub refusalNumbers : Refusal → RefusalNumbers
+refusalNumbers BadDepth = numbersAt badDepth 0 0
+refusalNumbers BadWord = numbersAt badWord 0 0
+refusalNumbers LargeMark = numbersAt largeMark 0 0
+refusalNumbers BytesFull = numbersAt bytesFull 0 0
+refusalNumbers SectionsFull = numbersAt sectionsFull 0 0
+refusalNumbers (Damaged i) = numbersAt damaged i 0
+refusalNumbers (ShortTable i) = numbersAt shortTable i 0
+refusalNumbers (Unplaced i) = numbersAt unplaced i 0
+refusalNumbers (PlacedApart i) = numbersAt placedApart i 0
+refusalNumbers (TooNarrow i k) = numbersAt tooNarrow i k
+refusalNumbers Unsettled = numbersAt unsettled 0 maxPasses
+refusalNumbers (Backward i k) = numbersAt backward i k
+refusalNumbers (ResultFull k) = numbersAt resultFull 0 k
+refusalNumbers ListingFull = numbersAt listingFull 0 0
+
+-- a refusal as a reply
+abbrev pub refusalReply : Refusal → Reply
+refusalReply r = refused (refusalNumbers r .number) (refusalNumbers r .section) (refusalNumbers r .passes)
