@@ -140,14 +140,14 @@ fn broken_section(section: StoredSection, previous_end: u32, is_last: bool, stor
 }
 
 // A last section that can't be read or, with bytes, ends elsewhere than at the stored count.
-fn broken_last(section: StoredSection, stored: u32) -> bool
-    ensures { λ r. ⌜ r ≡ brokenLast section stored ⌝ }
+fn broken_last(section: StoredSection, count: u32) -> bool
+    ensures { λ r. ⌜ r ≡ brokenLast section count ⌝ }
 {
     let SectionRead::Read(_) = read_section(section) else {
         return true;
     };
     if is_span(section.kind) {
-        section.second != stored
+        section.second != count
     } else {
         false
     }

@@ -1,0 +1,73 @@
+// What is printed: one line for each step, on standard output.
+use libc::STDOUT_FILENO;
+use records::Assembler;
+use store::Built;
+use units::Refusal;
+
+pub(crate) fn say(text: &[u8]) {
+    io::write_all(STDOUT_FILENO, text);
+}
+
+fn say_number(n: u32) {
+    io::print_decimal(STDOUT_FILENO, n as u64);
+}
+
+pub(crate) fn bad_script() {
+    say(b"bad script\n");
+}
+
+// A step that changes nothing: the store as it was.
+pub(crate) fn bad_step(store: Assembler) -> Assembler {
+    say(b"bad step\n");
+    store
+}
+
+fn say_stored(store: Assembler) {
+    say(b"stored ");
+    say_number(store.bytes);
+    say(b" ");
+    say_number(store.sections);
+    say(b"\n");
+}
+
+fn say_refused(refusal: Refusal) {
+    say(b"refused ");
+    say_number(refusal.number());
+    say(b" at ");
+    say_number(refusal.section());
+    say(b" passes ");
+    say_number(refusal.passes());
+    say(b"\n");
+}
+
+// The line of a building call: the store after it, which is the old one where it was refused.
+pub(crate) fn say_built(old: Assembler, built: Built) -> Assembler {
+    match built {
+        Built::Stored(store) => {
+            say_stored(store);
+            store
+        }
+        Built::Refused(refusal) => {
+            say_refused(refusal);
+            old
+        }
+    }
+}
+
+// Two hex digits of each byte.
+pub(crate) fn say_bytes(part: &[u8]) {
+    let mut i = 0;
+    while i < part.len() {
+        io::print_hex(STDOUT_FILENO, part[i] as u64, 2);
+        i += 1;
+    }
+}
+
+// Eight hex digits of each word.
+pub(crate) fn say_words(part: &[u32]) {
+    let mut i = 0;
+    while i < part.len() {
+        io::print_hex(STDOUT_FILENO, part[i] as u64, 8);
+        i += 1;
+    }
+}
