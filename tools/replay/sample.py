@@ -395,7 +395,7 @@ def script():
 
 
 if __name__ == "__main__":
-    folder = sys.argv[1] if len(sys.argv) > 1 else os.path.join(os.path.dirname(os.path.abspath(__file__)), "crates/replay")
+    folder = sys.argv[1] if len(sys.argv) > 1 else os.path.join(os.path.dirname(os.path.abspath(__file__)), "../../crates/replay")
     whole = script()
     open(os.path.join(folder, "stdin"), "wb").write(whole)
     open(os.path.join(folder, "stdout"), "w").write(model.replay(whole))

@@ -1,4 +1,4 @@
--- The Yellow Paper's stack instructions (sections 9.1 to 9.4, appendix H.2), with PUSH0 of EIP-3855: what PUSH, DUP and SWAP do to a stack.
+-- The Yellow Paper's stack instructions (sections 9.1, 9.4 and 9.5, appendix H.2), with PUSH0 of EIP-3855: what PUSH, DUP and SWAP do to a stack.
 -- Code is a list of bytes; a stack is a list of numbers, top first. No other opcode is described in this file, and gas is left out.
 -- Imports nothing of ours. Assumes nothing.
 use Prim.Native.Nat.{ℕ, zero, suc, _+_, _*_, _-_}
@@ -91,8 +91,8 @@ halts i stack = ltb (length stack) (removed i) || ltb maxStack (length stack - r
 unfoldable pub exchanged : ℕ → ℕ → List ℕ → List ℕ
 exchanged i j stack = set (set stack i (getD stack j 0)) j (getD stack i 0)
 
--- the stack after the instruction at `at`, which doesn't halt. PUSHn: 'μ′s[0] ≡ c((μpc + 1) .. (μpc + n))';
--- DUPn: 'μ′s[0] ≡ μs[n - 1]'; SWAPn: 'μ′s[0] ≡ μs[n]', 'μ′s[n] ≡ μs[0]'; `none` for those that aren't described here
+-- the stack after the instruction at `at`, which doesn't halt. By appendix H.2, for each n: PUSHn puts the n bytes after the opcode on
+-- the stack; DUPn puts a copy of item n - 1 there; SWAPn exchanges the items 0 and n. `none` for those that aren't described here
 abbrev pub effect : Instruction → List ℕ → ℕ → List ℕ → Option (List ℕ)
 effect (push n) code at stack = some (immediate code (at + 1) n ∷ stack)
 effect (dup n) code at stack = some (getD stack (n - 1) 0 ∷ stack)

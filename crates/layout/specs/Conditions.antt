@@ -1,5 +1,5 @@
 -- Document 01, module 3 and 'Replies': the conditions for 7, 8, 9 and 12 by the first section that .., those for 10, 11 and settled by
--- the pass that .., and the premise of demand 3. Readings 13 to 18 of docs/DECISIONS.md. Assumes nothing.
+-- the pass that .., and the premise of demand 3. Readings 21 to 26 of docs/DECISIONS.md. Assumes nothing.
 use Prim.Native.Nat.{ℕ, zero, suc, _+_, _*_, _^_, _≤_, _<_}
 use mathlib.Core.Path.{_≡_}
 use mathlib.Core.Bool.{Bool, true, false, cond, not, _&&_, _||_}
@@ -56,7 +56,7 @@ refers test (ops bs) = false
 refers test (bytes bs) = false
 refers test (reference r) = test (r .«mark_ref»)
 
--- a section that names a mark with a property
+-- a section that names a mark with a property: a mark is 'named by each reference to it'
 abbrev pub namesSome : (ℕ → Bool) → Section → Bool
 namesSome test = refers (someMark test)
 
@@ -64,11 +64,6 @@ namesSome test = refers (someMark test)
 unfoldable pub placed : List Section → ℕ → Bool
 placed [] m = false
 placed (s ∷ ss) m = placesSome (eqb m) s || placed ss m
-
--- 'and named by each reference to it'
-unfoldable pub named : List Section → ℕ → Bool
-named [] m = false
-named (s ∷ ss) m = namesSome (eqb m) s || named ss m
 
 -- 7: 'a mark placed or named is not below the table's length'
 unfoldable pub shortAt : ℕ → List Section → ℕ → Bool

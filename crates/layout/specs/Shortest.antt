@@ -32,7 +32,7 @@ pub record Shortest (n : ℕ) (ss : List Section) : Type 0 where
   pub exactly : IsSettled (settle n ss) ↔ SomeLayout ss
   -- 'otherwise the answer is number 10'
   pub otherwise : (SomeLayout ss → ⊥) ↔ IsNarrow (settle n ss)
-  -- 'The layout of the written code .. is itself one that gives enough'; 'the length answered is its length in all'
+  -- the layout that is settled gives enough, and the length is its length in all
   pub enough : (table : List ℕ) (length passes : ℕ) → settle n ss ≡ settled table length passes
       → GivesEnough ss (settledLayout table ss) × (length ≡ inAll (settledLayout table ss))
   -- 'Every other layout that gives enough, padded ones too, puts each mark at least as late and is at least as long in all.'

@@ -1,4 +1,4 @@
-// One section: read from its three words, and a reference put into words. Nothing else reads or makes a section's words.
+// One section: read from its three words, and a reference put into words.
 use crate::Assembler;
 use units::AsmBytesIdx;
 use units::AsmReference;

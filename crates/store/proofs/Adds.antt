@@ -16,8 +16,8 @@ use Rattle.records.specs.Sections.{Section, ops, bytes}
 use Rattle.records.specs.declared.damage.Soundness.{Soundness}
 use Rattle.records.specs.declared.damage.Soundness.the-variants.{Sound, Damaged}
 use Rattle.records.specs.declared.record.StoredSection.{StoredSection}
-use Rattle.store.specs.Calls.{Push, hasBadDepth, hasBadWord, hasLargeMark, added, bytesOf, wordsOf, recordWords, over, joins, joined, appended, withSection, bytesPass, sectionPasses, roomReply, addReply, pushReply, addAfter, pushAfter}
-use Rattle.store.specs.Adding.{kindNumber, bytesSection, aloneSection, lastKindIs, noSectionLeft}
+use Rattle.store.specs.Calls.{Push, hasBadDepth, hasBadWord, hasLargeMark, added, bytesOf, wordsOf, recordWords, over, joins, joined, appended, withSection, bytesPass, noSectionLeft, sectionPasses, roomReply, addReply, pushReply, addAfter, pushAfter}
+use Rattle.store.specs.Adding.{kindNumber, bytesSection, aloneSection, lastKindIs}
 use Rattle.store.specs.declared.adding.BytesKind.{BytesKind}
 use Rattle.store.specs.declared.adding.BytesKind.the-variants.{Ops, Data}
 use Rattle.store.specs.declared.adding.Alone.{Alone}
@@ -45,13 +45,13 @@ module _ (w : ℕ) (s : Section) (st : Store) where
 
       module _ (apart : joins w s st ≡ false) where
         pub add-sections-full : noSectionLeft w (st .sections) (st .words) ≡ true → Adds w s st (refused sectionsFull 0 0) (st .bytes) (st .words)
-        unfolding addReply addAfter roomReply sectionPasses noSectionLeft
+        unfolding addReply addAfter roomReply sectionPasses
         add-sections-full f = (rw (sound, room, apart, f), (rw (sound, room, apart, f), rw (sound, room, apart, f)))
 
         pub add-appended :
             noSectionLeft w (st .sections) (st .words) ≡ false
             → Adds w s st (stored (appended w s st .storedBytes) (appended w s st .sections)) (appended w s st .bytes) (appended w s st .words)
-        unfolding addReply addAfter roomReply sectionPasses withSection noSectionLeft
+        unfolding addReply addAfter roomReply sectionPasses withSection
         add-appended f = (rw (sound, room, apart, f), (rw (sound, room, apart, f), rw (sound, room, apart, f)))
 
 -- counts are good where a building call's test finds nothing

@@ -21,9 +21,9 @@ use Rattle.units.proofs.BigEndian.{AllBytes, bigEndian-pad, leastBytes-leading,
 use Rattle.records.specs.Record.{maxMark}
 use Rattle.records.specs.Store.{maxBytes, maxSections}
 use Rattle.records.specs.declared.record.StoredSection.{StoredSection}
-use Rattle.store.specs.Calls.{pushSwap, pushExchange, hasBadDepth, namesLargeMark, swapOp, pushOp, exchangeOps, minimalPush, recordWords, over}
+use Rattle.store.specs.Calls.{pushSwap, pushExchange, hasBadDepth, namesLargeMark, swapOp, pushOp, exchangeOps, minimalPush, recordWords, over, noSectionLeft}
 use Rattle.records.specs.Sections.{ops}
-use Rattle.store.specs.Adding.{lastKindIs, noSectionLeft, LeadingZeros}
+use Rattle.store.specs.Adding.{lastKindIs, LeadingZeros}
 
 -- 4, as the code tests it: the slice first, then the limit
 pub pass-slice : (a b x : ℕ) → a < x → true ≡ ltb (min a b) x

@@ -2,11 +2,10 @@
 use Prim.Native.Nat.{ℕ, _+_, _*_, _-_, _≤_, _<_}
 use mathlib.Core.Path.{_≡_}
 use mathlib.Core.List.{List}
-use mathlib.Core.Bool.{Bool, _&&_, _||_}
+use mathlib.Core.Bool.{Bool, _&&_}
 use lib.ListN.{length, getD}
 use lib.Dec.{ltb, eqb}
 use Rattle.records.specs.Record.{opsKind, dataKind}
-use Rattle.records.specs.Store.{maxSections}
 use Rattle.records.specs.Sections.{Section, mark, ops, bytes, reference}
 use Rattle.store.specs.declared.adding.BytesKind.{BytesKind}
 use Rattle.store.specs.declared.adding.BytesKind.the-variants.{Ops, Data}
@@ -31,10 +30,6 @@ aloneSection (Reference r) = reference r
 -- there is a last section, and its kind is this
 unfoldable pub lastKindIs : ℕ → ℕ → List ℕ → ℕ → Bool
 lastKindIs w sections words kind = ltb 0 sections && eqb (getD words (w * (sections - 1)) 0) kind
-
--- one section more passes slice or limit
-unfoldable pub noSectionLeft : ℕ → ℕ → List ℕ → Bool
-noSectionLeft w sections words = ltb maxSections (sections + 1) || ltb (length words) (w * (sections + 1))
 
 -- a list begins with r zeros and no more
 pub record LeadingZeros (bs : List ℕ) (r : ℕ) : Type 0 where

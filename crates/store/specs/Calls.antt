@@ -184,13 +184,21 @@ withSection w s st = cond (joins w s st) (joined w s st) (appended w s st)
 
 -- ---- the answer: refusals in the order 1, 2, 3, 6, 4, 5
 
+-- so many bytes more pass slice or limit
+abbrev pub bytesOver : List ℕ → ℕ → ℕ → Bool
+bytesOver slice count more = ltb (min (length slice) maxBytes) (count + more)
+
 -- 4: the call's bytes pass slice or limit
 unfoldable pub bytesPass : Section → Store → Bool
-bytesPass s st = ltb (min (length (st .bytes)) maxBytes) (st .storedBytes + length (bytesOf s))
+bytesPass s st = bytesOver (st .bytes) (st .storedBytes) (length (bytesOf s))
+
+-- one section more passes slice or limit
+unfoldable pub noSectionLeft : ℕ → ℕ → List ℕ → Bool
+noSectionLeft w sections words = ltb maxSections (sections + 1) || ltb (length words) (w * (sections + 1))
 
 -- 5: a needed section passes slice or limit
 unfoldable pub sectionPasses : ℕ → Section → Store → Bool
-sectionPasses w s st = not (joins w s st) && (ltb maxSections (st .sections + 1) || ltb (length (st .words)) (w * (st .sections + 1)))
+sectionPasses w s st = not (joins w s st) && noSectionLeft w (st .sections) (st .words)
 
 -- 4, 5, or stored
 unfoldable pub roomReply : ℕ → Section → Store → Reply

@@ -9,13 +9,11 @@ use units::AsmReference;
 use units::MarkId;
 use units::Refusal;
 ghost use mathlib.Core.Path.{_≡_};
-ghost use mathlib.Core.Bool.{_&&_, _||_};
-ghost use Prim.Native.Nat.{_+_, _*_, _-_, _≤_, _<_, min};
-ghost use lib.Dec.{ltb, eqb};
-ghost use lib.ListN.{length, getD, set};
-ghost use Rattle.records.specs.Store.{storeOf, wordsPerSection, maxBytes, maxSections};
-ghost use Rattle.store.specs.Calls.{builtReply, wordsOf, recordWords, over, addReply, addAfter};
-ghost use Rattle.store.specs.Adding.{kindNumber, bytesSection, aloneSection, lastKindIs, noSectionLeft};
+ghost use Prim.Native.Nat.{_+_, _*_, _-_, _≤_, _<_};
+ghost use lib.ListN.{length, set};
+ghost use Rattle.records.specs.Store.{storeOf, wordsPerSection};
+ghost use Rattle.store.specs.Calls.{builtReply, wordsOf, recordWords, over, bytesOver, noSectionLeft, addReply, addAfter};
+ghost use Rattle.store.specs.Adding.{kindNumber, bytesSection, aloneSection, lastKindIs};
 
 // The two kinds of section that hold bytes.
 pub(crate) enum BytesKind {
@@ -121,7 +119,7 @@ fn alone_words(alone: Alone) -> StoredSection
 
 // 4: the stored bytes and those added pass slice or limit.
 fn bytes_pass(store: Assembler, bytes: &[u8], added: &[u8]) -> bool
-    ensures { λ r. ⌜ r ≡ ltb (min (length (now (bytes .entry))) maxBytes) (store .bytes + length (now (added .entry))) ⌝ }
+    ensures { λ r. ⌜ r ≡ bytesOver (now (bytes .entry)) (store .bytes) (length (now (added .entry))) ⌝ }
 {
     let end = (store.bytes as usize) + added.len();
     if bytes.len() < end {

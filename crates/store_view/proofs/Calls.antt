@@ -16,7 +16,7 @@ use Rattle.units.specs.Replies.{Reply, stored, refused}
 use Rattle.records.specs.Store.{Store, maxSections}
 use Rattle.records.specs.Damage.{endBefore}
 use Rattle.records.specs.Sections.{Section, decodeFrom, decode}
-use Rattle.store.specs.Calls.{Push, pushMark, pushOpByte, pushSwap, pushDup, pushExchange, pushMinimalU256, pushMinimalU64, pushMinimalU32, pushData, pushReference, Call, push, clear, hasLargeMark, added, bytesOf, wordsOf, joins, recordWords, joined, appended, withSection, bytesPass, sectionPasses, pushReply, pushAfter, emptied, callReply, callAfter}
+use Rattle.store.specs.Calls.{Push, pushMark, pushOpByte, pushSwap, pushDup, pushExchange, pushMinimalU256, pushMinimalU64, pushMinimalU32, pushData, pushReference, Call, push, clear, hasLargeMark, added, bytesOf, wordsOf, joins, recordWords, joined, appended, withSection, bytesPass, noSectionLeft, sectionPasses, pushReply, pushAfter, emptied, callReply, callAfter}
 use Rattle.store_view.specs.View.{Undamaged}
 use Rattle.store_view.specs.Answers.{Accepted, Kept}
 use Rattle.store_view.proofs.Tests.{and-false, cond-true, cond-false}
@@ -36,7 +36,7 @@ bytes-room s st e = let l = ltb-false _ (st .storedBytes + length (bytesOf s)) e
 
 -- room for its section, if it needs one
 row-room : (w : ℕ) (s : Section) (st : Store) → sectionPasses w s st ≡ false → joins w s st ≡ false → RowRoom w st
-unfolding sectionPasses
+unfolding sectionPasses noSectionLeft
 row-room w s st e n =
     let r = or-false (ltb maxSections (st .sections + 1)) (ltb (length (st .words)) (w * (st .sections + 1))) .0 (and-false (not (joins w s st)) _ e (rw n)) in
     record { fits = ltb-false _ _ (r .1); limit = ltb-false _ _ (r .0) }

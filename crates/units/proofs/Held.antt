@@ -1,4 +1,4 @@
--- Laws of `heldBytes`: its value on each range, that it grows with the value, and that w bytes hold a value exactly when the value is
+-- Laws of `heldBytes`: its value on each range, and that w bytes hold a value exactly when the value is
 -- below 256 to the w. Assumes nothing.
 use Prim.Native.Nat.{ℕ, zero, suc, _≤_, _<_, _^_}
 use native.Mathlib.Omega.{arith}

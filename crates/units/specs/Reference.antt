@@ -1,5 +1,5 @@
 -- Document 01, module 1: a reference, its least size, its size for a value, and when its set size is too narrow for it.
--- This is the width rule: everything above uses these definitions, by the laws in proofs/Widths. Assumes nothing.
+-- This is the width rule. Assumes nothing.
 use Prim.Native.Nat.{ℕ, _+_}
 use mathlib.Core.Bool.{Bool, true, false, cond}
 use lib.Dec.{ltb, eqb}

@@ -1,5 +1,5 @@
 -- Document 01, 'Replies': what is answered, in the paper's numbers; and the number, section and passes of each refusal.
--- Contracts speak of an answer through these definitions alone. Assumes nothing.
+-- Contracts of the calls speak of an answer through these definitions. Assumes nothing.
 use Prim.Native.Nat.{ℕ}
 use Rattle.units.specs.declared.reply.RefusalNumbers.{RefusalNumbers}
 use Rattle.units.specs.declared.reply.Refusal.{Refusal}
