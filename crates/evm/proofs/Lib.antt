@@ -1,2 +1,5 @@
 pub mod Steps
 pub mod Examples
+pub mod Opcodes
+pub mod Walks
+pub mod Lands

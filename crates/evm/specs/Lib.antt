@@ -1,1 +1,4 @@
 pub mod YellowPaper
+pub mod Walk
+pub mod Opcodes
+pub mod Landing

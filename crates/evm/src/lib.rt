@@ -1,2 +1,4 @@
-// Opcode numbers of the Yellow Paper (appendix H.2) and EIP-3855. The definitions of what they do are in specs/YellowPaper.
+// Opcode numbers and push sizes (op.rs; the Yellow Paper, appendix H.2, and EIP-3855), and landing. The definitions of what opcodes do
+// are in specs/YellowPaper.
+pub mod landing;
 pub mod op;

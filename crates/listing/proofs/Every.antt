@@ -1,0 +1,115 @@
+-- Laws of the walk over every section of a store: what is left after a section, that there is room, and that none is damaged.
+-- Assumes nothing.
+use Prim.Native.Nat.{ℕ, zero, suc, _+_, _*_, _-_, _≤_, _<_, _^_}
+use native.Mathlib.Omega.{arith}
+use native.Mathlib.Nat.{sub-zero}
+use native.Mathlib.Numerals.{add-one}
+use mathlib.Core.Path.{_≡_, refl, sym, ap, _∙_, subst}
+use mathlib.Core.Bool.{Bool, true, false, true≢false}
+use mathlib.Core.List.{List, [], _∷_, _++_}
+use lib.ListN.{length, length-append}
+use Rattle.records.specs.Record.{readSection}
+use Rattle.records.specs.Store.{Store, sectionWords}
+use Rattle.records.specs.Damage.{unreadable, wholeSoundness}
+use Rattle.records.specs.declared.damage.Soundness.the-variants.{Sound}
+use Rattle.records.specs.Sections.{Section, sectionOf, sectionRead, decodeAt, decodeFrom, decode}
+use Rattle.records.specs.declared.record.AsmSection.{AsmSection}
+use Rattle.records.specs.declared.record.AsmSection.the-variants.{Mark, Ops, Data, MarkRef}
+use Rattle.records.specs.declared.record.SectionRead.{SectionRead}
+use Rattle.records.specs.declared.record.SectionRead.the-variants.{Read, Damaged}
+use Rattle.listing.specs.Put.{Put, SectionIn, Listable}
+use Rattle.listing.specs.Listing.{sectionText, listing}
+use Rattle.listing.proofs.Puts.{Left, left-start, left-step, left-room, left-done, room-first}
+use Rattle.listing.proofs.Turns.{left-is}
+use Rattle.listing.proofs.Undamaged.{Facts, sound-facts, Holds, section-holds}
+use Rattle.listing.proofs.Lengths.{section-length}
+
+-- the sections from i on
+abbrev pub rest : ℕ → Store → ℕ → List ℕ
+rest w st i = listing (decodeFrom w st (st .sections - i) i)
+
+-- the first of k + 1 sections, and the others
+from-next : (w : ℕ) (st : Store) (k i : ℕ) → listing (decodeFrom w st (suc k) i) ≡ sectionText (decodeAt w st i) ++ listing (decodeFrom w st k (suc i))
+unfolding decodeFrom listing
+from-next w st k i = refl
+
+module _ (w : ℕ) (st : Store) where
+  pub rest-start : listing (decode w st) ≡ rest w st 0
+  unfolding decode
+  rest-start = ap (λ (k : ℕ). listing (decodeFrom w st k 0)) (sym (sub-zero (st .sections)))
+
+  rest-next : (i : ℕ) → i < st .sections → rest w st i ≡ sectionText (decodeAt w st i) ++ rest w st (i + 1)
+  rest-next i h =
+      let k : ℕ = st .sections - (i + 1) in
+      let e : st .sections - i ≡ suc k = omega arith in
+      ap (λ (n : ℕ). listing (decodeFrom w st n i)) e ∙ from-next w st k i ∙ ap (λ (j : ℕ). sectionText (decodeAt w st i) ++ listing (decodeFrom w st k j)) (sym (add-one i))
+
+  rest-none : (i : ℕ) → st .sections ≤ i → rest w st i ≡ []
+  unfolding decodeFrom listing
+  rest-none i h =
+      let e : st .sections - i ≡ 0 = omega arith in
+      ap (λ (n : ℕ). listing (decodeFrom w st n i)) e
+
+  -- a section that was read
+  at-is : (i : ℕ) (s : AsmSection) → readSection (sectionWords w st i) ≡ Read s → decodeAt w st i ≡ sectionOf (st .bytes) s
+  unfolding decodeAt
+  at-is i s e = ap (sectionRead (st .bytes)) e
+
+  -- ---- what the code's turn asks
+
+  module _ {t now : List ℕ} {at here : ℕ} (i : ℕ) (h : i < st .sections) (s : AsmSection) (e : readSection (sectionWords w st i) ≡ Read s) (l : Left t at (listing (decode w st)) now here (rest w st i)) where
+    -- what is left, its first section as it was read
+    split : Left t at (listing (decode w st)) now here (sectionText (sectionOf (st .bytes) s) ++ rest w st (i + 1))
+    split = left-is (rest-next i h ∙ ap (λ (x : Section). sectionText x ++ rest w st (i + 1)) (at-is i s e)) l
+
+    pub every-turn : {m : List ℕ} {r : ℕ} → Put now here (sectionText (sectionOf (st .bytes) s)) r m → Left t at (listing (decode w st)) m r (rest w st (i + 1))
+    every-turn p = left-step (rest w st (i + 1)) split p
+
+    pub every-room : at + length (listing (decode w st)) < 2 ^ 64 → here + length (sectionText (sectionOf (st .bytes) s)) < 2 ^ 64
+    every-room room = room-first here (sectionText (sectionOf (st .bytes) s)) (rest w st (i + 1)) (left-room split room)
+
+  pub every-done : {t now : List ℕ} {at here : ℕ} (i : ℕ) → st .sections ≤ i → Left t at (listing (decode w st)) now here (rest w st i) → Put t at (listing (decode w st)) here now
+  every-done i h l = left-done (left-is (rest-none i h) l)
+
+  -- ---- in an undamaged store
+
+  module _ (facts : Facts w st) where
+    holds : (i : ℕ) (s : AsmSection) → i < st .sections → readSection (sectionWords w st i) ≡ Read s → Holds (st .storedBytes) (Read s)
+    holds i s h e = subst (Holds (st .storedBytes)) e (section-holds (st .storedBytes) (sectionWords w st i) (facts .inside i h))
+
+    -- no section is damaged
+    pub never : (i : ℕ) → i < st .sections → readSection (sectionWords w st i) ≡ Damaged → ⊥
+    never i h e = true≢false (sym (ap unreadable e) ∙ facts .readable i h)
+
+    -- its bytes are there
+    pub section-in : (i : ℕ) (s : AsmSection) → i < st .sections → readSection (sectionWords w st i) ≡ Read s → SectionIn (length (st .bytes)) s
+    section-in i s h e = weaker s (holds i s h e)
+      where
+        weaker : (s : AsmSection) → Holds (st .storedBytes) (Read s) → SectionIn (length (st .bytes)) s
+        weaker (Mark m) k = tt
+        weaker (Ops p) k = (k .0, omega (arith, k .1, facts .bytesFit))
+        weaker (Data p) k = (k .0, omega (arith, k .1, facts .bytesFit))
+        weaker (MarkRef r) k = tt
+
+    -- the length of its text
+    at-length : (i : ℕ) → i < st .sections → length (sectionText (decodeAt w st i)) ≤ 2 ^ 30
+    at-length i h = go (readSection (sectionWords w st i)) refl
+      where
+        go : (v : SectionRead) → readSection (sectionWords w st i) ≡ v → length (sectionText (decodeAt w st i)) ≤ 2 ^ 30
+        go (Read s) e = rw (at-is i s e) (section-length (st .storedBytes) (st .bytes) s (facts .bytesLimit) (holds i s h e))
+        go Damaged e = absurd (never i h e)
+
+    from-length : (k i : ℕ) → i + k ≤ st .sections → length (listing (decodeFrom w st k i)) ≤ k * 2 ^ 30
+    unfolding decodeFrom listing
+    from-length zero i h = omega arith
+    from-length (suc k) i h =
+        omega (arith, length-append (sectionText (decodeAt w st i)) (listing (decodeFrom w st k (suc i))), at-length i (omega arith), from-length k (suc i) (omega arith))
+
+    -- the listing's length is far below 2 ^ 64
+    pub listing-short : length (listing (decode w st)) < 2 ^ 64
+    unfolding decode
+    listing-short = omega (arith, from-length (st .sections) 0 (omega arith), facts .sectionsLimit)
+
+-- an undamaged store has room from the text's start on
+pub listable : (w : ℕ) (st : Store) → wholeSoundness w st ≡ Sound → Listable w st 0
+listable w st e = record { sound = e; room = omega (arith, listing-short w st (sound-facts w st e)) }

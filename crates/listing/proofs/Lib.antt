@@ -1,0 +1,9 @@
+pub mod Digits
+pub mod Puts
+pub mod Turns
+pub mod Undamaged
+pub mod Lengths
+pub mod Every
+pub mod Answers
+pub mod Examples
+pub mod Held

@@ -1,0 +1,73 @@
+-- Laws of putting text into a slice: two texts in a row are one, and a loop's walk, of which what is left equals the whole.
+-- Assumes nothing.
+use Prim.Native.Nat.{ℕ, suc, _+_, _≤_, _<_, _^_}
+use native.Mathlib.Omega.{arith}
+use native.Mathlib.Nat.{add-zero, add-suc, suc-add}
+use mathlib.Core.Path.{_≡_, refl, sym, ap, _∙_}
+use mathlib.Core.List.{List, [], _∷_, _++_}
+use lib.ListN.{length, set, length-append}
+use lib.Seq.{sets, length-sets, set-out}
+use Rattle.listing.specs.Put.{Put}
+
+-- a text after another
+sets-append : (x y t : List ℕ) (at : ℕ) → sets t at (x ++ y) ≡ sets (sets t at x) (at + length x) y
+sets-append [] y t at = rw add-zero
+sets-append (a ∷ x) y t at =
+    sets-append x y (set t at a) (suc at)
+    ∙ ap (λ (n : ℕ). sets (sets (set t at a) (suc at) x) n y) (suc-add at (length x) ∙ sym (add-suc at (length x)))
+
+-- nothing put
+pub put-none : (t : List ℕ) (at : ℕ) → Put t at [] at t
+put-none t at = record { count = sym (add-zero at); text = refl }
+
+-- two texts in a row
+pub join : {t m u : List ℕ} {at r s : ℕ} {x y : List ℕ} → Put t at x r m → Put m r y s u → Put t at (x ++ y) s u
+join {t} {m} {u} {at} {r} {s} {x} {y} p q = record {
+  count = omega (arith, length-append x y, p .count, q .count);
+  text = q .text ∙ ap (λ (k : ℕ). sets m k y) (p .count) ∙ ap (λ (l : List ℕ). sets l (at + length x) y) (p .text) ∙ sym (sets-append x y t at);
+}
+
+-- the slice keeps its length
+pub put-length : {t m : List ℕ} {at r : ℕ} {x : List ℕ} → Put t at x r m → length m ≡ length t
+put-length {t} {m} {at} {r} {x} p = ap length (p .text) ∙ length-sets t at x
+
+-- there is room for the first of two texts
+pub room-first : (at : ℕ) (x y : List ℕ) → at + length (x ++ y) < 2 ^ 64 → at + length x < 2 ^ 64
+room-first at x y h = omega (arith, length-append x y)
+
+-- and, after it, for the second
+pub room-next : {t m : List ℕ} {at r : ℕ} {x : List ℕ} (y : List ℕ) → Put t at x r m → at + length (x ++ y) < 2 ^ 64 → r + length y < 2 ^ 64
+room-next {x = x} y p h = omega (arith, length-append x y, p .count)
+
+-- a walk: putting what is left from where it stands is putting the whole from the start
+pub record Left (t : List ℕ) (at : ℕ) (whole : List ℕ) (now : List ℕ) (here : ℕ) (rest : List ℕ) : Type 0 where
+  pub count : here + length rest ≡ at + length whole
+  pub text : sets now here rest ≡ sets t at whole
+  pub same : length now ≡ length t
+
+-- it starts with the whole
+pub left-start : (t : List ℕ) (at : ℕ) (whole : List ℕ) → Left t at whole t at whole
+left-start t at whole = record { count = refl; text = refl; same = refl }
+
+-- a turn puts the first of what is left
+pub left-step : {t : List ℕ} {at : ℕ} {whole now m : List ℕ} {here r : ℕ} {x : List ℕ} (y : List ℕ) → Left t at whole now here (x ++ y) → Put now here x r m → Left t at whole m r y
+left-step {t} {at} {whole} {now} {m} {here} {r} {x} y l p = record {
+  count = omega (arith, length-append x y, p .count, l .count);
+  text = join p (put-all m r y) .text ∙ l .text;
+  same = put-length p ∙ l .same;
+}
+  where
+    put-all : (m : List ℕ) (r : ℕ) (y : List ℕ) → Put m r y (r + length y) (sets m r y)
+    put-all m r y = record { count = refl; text = refl }
+
+-- there is room for what is left
+pub left-room : {t : List ℕ} {at : ℕ} {whole now : List ℕ} {here : ℕ} {rest : List ℕ} → Left t at whole now here rest → at + length whole < 2 ^ 64 → here + length rest < 2 ^ 64
+left-room l h = omega (arith, l .count)
+
+-- it ends with nothing left
+pub left-done : {t : List ℕ} {at : ℕ} {whole now : List ℕ} {here : ℕ} → Left t at whole now here [] → Put t at whole here now
+left-done {here = here} l = record { count = sym (add-zero here) ∙ l .count; text = l .text }
+
+-- one byte past the slice's end is counted alone
+pub put-past : (t : List ℕ) (at b : ℕ) → length t ≤ at → Put t at (b ∷ []) (at + 1) t
+put-past t at b h = record { count = refl; text = sym (set-out t at b h) }

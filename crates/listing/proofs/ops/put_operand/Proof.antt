@@ -1,0 +1,41 @@
+-- Nothing, or the immediate, whose size is the push size.
+-- Assumes nothing.
+use borrow.Author.Needs.{needs}
+use mathlib.Core.Path.{sym, _∙_}
+use Rattle.evm.proofs.Opcodes.{push-bytes, push-none}
+use Rattle.listing.proofs.Puts.{put-none}
+use Rattle.listing.proofs.Turns.{put-is, immediate-none}
+use Rattle.listing.proofs.ops.put_operand.Statement.{statement}
+use Rattle.listing.proofs.ops.put_operand.Tie as tie
+
+push-size-requires : tie.Need-push-size-requires
+push-size-requires c κs = search needs
+
+enum-known-push-size : tie.Need-enum-known-push-size
+enum-known-push-size c = search needs
+
+enum-told : tie.Need-enum-told
+enum-told c = search needs
+
+returns : tie.Need-returns
+returns c = put-is (immediate-none _ _ (push-none _ (sym (c .before .before .push-size .ensures) ∙ c .enum-told .given .1))) (put-none _ _)
+
+cast-put-immediate : tie.Need-cast-put-immediate
+cast-put-immediate c = search needs
+
+put-immediate-requires : tie.Need-put-immediate-requires
+put-immediate-requires c κs =
+    let size = push-bytes _ _ (sym (c .before .before .before .before .push-size .ensures) ∙ c .before .before .push-size2 .given .1) in
+    let pre = c .before .before .before .before .before .before .before .pre in
+    (size .1, pre .0, pre .1, rw (size .0) at (pre .2))
+
+same-length : tie.Need-same-length
+same-length c = search needs
+
+returns-2 : tie.Need-returns-2
+returns-2 c =
+    let size = push-bytes _ _ (sym (c .before .before .before .before .before .before .before .push-size .ensures) ∙ c .before .before .before .before .before .push-size2 .given .1) in
+    rw (size .0) (c .before .before .put-immediate .ensures)
+
+pub put-operand-spec : {M : Type 1} → statement M
+put-operand-spec = tie.close (tie.spec push-size-requires enum-known-push-size enum-told returns cast-put-immediate put-immediate-requires same-length returns-2)

@@ -1,0 +1,107 @@
+// The lines of display.rs, each put into a slice from a place on: marks, data, references. Those of an Ops section are in ops.rt.
+use crate::text::put;
+use crate::text::put_decimal;
+use crate::text::put_hex;
+use units::AsmReference;
+use units::BytesSpan;
+use units::MarkId;
+use units::MarkReference;
+use units::MarkSpan;
+use units::SetSize;
+ghost use Prim.Native.Nat.{_+_, _<_, _^_};
+ghost use lib.ListN.{length};
+ghost use lib.Seq.{slice};
+ghost use Rattle.listing.specs.Put.{Put, SpanIn};
+ghost use Rattle.listing.specs.Listing.{markName, markLine, dataLine, pushText, deltaText, marksText, sizeText, referenceLine};
+
+// `.mark7`
+fn put_mark_name(text: &mut [u8], at: usize, mark: MarkId) -> usize
+    requires { ⌜ at + length (markName (mark .0)) < 2 ^ 64 ⌝ }
+    ensures { λ r. ⌜ Put (now (text .entry)) at (markName (mark .0)) r (now (text .exit)) ⌝ }
+{
+    let named = put(text, at, b".mark");
+    put_decimal(text, named, mark.0)
+}
+
+// `.mark7:`
+pub(crate) fn put_mark_line(text: &mut [u8], at: usize, mark: MarkId) -> usize
+    requires { ⌜ at + length (markLine (mark .0)) < 2 ^ 64 ⌝ }
+    ensures { λ r. ⌜ Put (now (text .entry)) at (markLine (mark .0)) r (now (text .exit)) ⌝ }
+{
+    let named = put_mark_name(text, at, mark);
+    put(text, named, b":\n")
+}
+
+// `  data 0xaabb (2 bytes)`
+pub(crate) fn put_data_line(text: &mut [u8], at: usize, bytes: &[u8], span: BytesSpan) -> usize
+    requires { ⌜ SpanIn (length (now bytes)) span × (at + length (dataLine (slice (span .start .0) (span .end .0) (now bytes))) < 2 ^ 64) ⌝ }
+    ensures { λ r. ⌜ Put (now (text .entry)) at (dataLine (slice (span .start .0) (span .end .0) (now (bytes .entry)))) r (now (text .exit)) ⌝ }
+{
+    let start = span.start.0;
+    let end = span.end.0;
+    let named = put(text, at, b"  data 0x");
+    let written = put_hex(text, named, bytes, start as usize, end as usize);
+    let opened = put(text, written, b" (");
+    let counted = put_decimal(text, opened, end - start);
+    put(text, counted, b" bytes)\n")
+}
+
+// `  PUSH ` or `  RAW `
+fn put_pushed(text: &mut [u8], at: usize, pushed: bool) -> usize
+    requires { ⌜ at + length (pushText pushed) < 2 ^ 64 ⌝ }
+    ensures { λ r. ⌜ Put (now (text .entry)) at (pushText pushed) r (now (text .exit)) ⌝ }
+{
+    if pushed {
+        put(text, at, b"  PUSH ")
+    } else {
+        put(text, at, b"  RAW ")
+    }
+}
+
+// `(.mark1 - .mark0)`, the end first
+fn put_delta(text: &mut [u8], at: usize, span: MarkSpan) -> usize
+    requires { ⌜ at + length (deltaText span) < 2 ^ 64 ⌝ }
+    ensures { λ r. ⌜ Put (now (text .entry)) at (deltaText span) r (now (text .exit)) ⌝ }
+{
+    let opened = put(text, at, b"(");
+    let ended = put_mark_name(text, opened, span.end);
+    let parted = put(text, ended, b" - ");
+    let started = put_mark_name(text, parted, span.start);
+    put(text, started, b")")
+}
+
+// `.mark7` or `(.mark1 - .mark0)`
+fn put_marks(text: &mut [u8], at: usize, mark_ref: MarkReference) -> usize
+    requires { ⌜ at + length (marksText «mark_ref») < 2 ^ 64 ⌝ }
+    ensures { λ r. ⌜ Put (now (text .entry)) at (marksText «mark_ref») r (now (text .exit)) ⌝ }
+{
+    match mark_ref {
+        MarkReference::Direct(mark) => put_mark_name(text, at, mark),
+        MarkReference::Delta(span) => put_delta(text, at, span),
+    }
+}
+
+// `:2`, or nothing if unsized
+fn put_size(text: &mut [u8], at: usize, set_size: SetSize) -> usize
+    requires { ⌜ at + length (sizeText «set_size») < 2 ^ 64 ⌝ }
+    ensures { λ r. ⌜ Put (now (text .entry)) at (sizeText «set_size») r (now (text .exit)) ⌝ }
+{
+    let SetSize::Sized(size) = set_size else {
+        return at;
+    };
+    let opened = put(text, at, b":");
+    put_decimal(text, opened, size.bytes())
+}
+
+// `  PUSH .mark1` or `  RAW (.mark1 - .mark0):2`
+pub(crate) fn put_reference_line(text: &mut [u8], at: usize, reference: AsmReference) -> usize
+    requires { ⌜ at + length (referenceLine reference) < 2 ^ 64 ⌝ }
+    ensures { λ r. ⌜ Put (now (text .entry)) at (referenceLine reference) r (now (text .exit)) ⌝ }
+{
+    let mark_ref = reference.mark_ref;
+    let set_size = reference.set_size;
+    let pushed = put_pushed(text, at, reference.pushed);
+    let marked = put_marks(text, pushed, mark_ref);
+    let sized = put_size(text, marked, set_size);
+    put(text, sized, b"\n")
+}

@@ -1,0 +1,82 @@
+// The covered core of the text sink: bytes, hex and decimal numbers put into a slice from a place on. Each answers the place after
+// what it put. Bytes past the slice's end are counted and not stored.
+ghost use mathlib.Core.Path.{_≡_};
+ghost use mathlib.Core.List.{[], _∷_};
+ghost use Prim.Native.Nat.{_+_, _≤_, _<_, _^_};
+ghost use lib.ListN.{length};
+ghost use lib.Seq.{slice};
+ghost use Rattle.listing.specs.Put.{Put};
+ghost use Rattle.listing.specs.Decimal.{decimal};
+ghost use Rattle.listing.specs.Listing.{hexDigit, hexByte, hex};
+
+// One byte.
+fn put_byte(text: &mut [u8], at: usize, byte: u8) -> usize
+    requires { ⌜ at + 1 < 2 ^ 64 ⌝ }
+    ensures { λ r. ⌜ Put (now (text .entry)) at (byte ∷ []) r (now (text .exit)) ⌝ }
+{
+    if text.len() <= at {
+        return at + 1;
+    }
+    text[at] = byte;
+    at + 1
+}
+
+// A byte string.
+pub(crate) fn put(text: &mut [u8], at: usize, added: &[u8]) -> usize
+    requires { ⌜ at + length (now added) < 2 ^ 64 ⌝ }
+    ensures { λ r. ⌜ Put (now (text .entry)) at (now (added .entry)) r (now (text .exit)) ⌝ }
+{
+    let mut here = at;
+    let mut i = 0;
+    while i < added.len() {
+        here = put_byte(text, here, added[i]);
+        i += 1;
+    }
+    here
+}
+
+// The character of a hex digit.
+fn hex_digit(digit: u8) -> u8
+    requires { ⌜ digit < 16 ⌝ }
+    ensures { λ r. ⌜ r ≡ hexDigit digit ⌝ }
+{
+    match digit {
+        0..=9 => b'0' + digit,
+        _ => b'a' + (digit - 10),
+    }
+}
+
+// A byte as two hex digits.
+fn put_hex_byte(text: &mut [u8], at: usize, byte: u8) -> usize
+    requires { ⌜ at + 2 < 2 ^ 64 ⌝ }
+    ensures { λ r. ⌜ Put (now (text .entry)) at (hexByte byte) r (now (text .exit)) ⌝ }
+{
+    let next = put_byte(text, at, hex_digit(byte / 16));
+    put_byte(text, next, hex_digit(byte % 16))
+}
+
+// The bytes from start to end, in hex.
+pub(crate) fn put_hex(text: &mut [u8], at: usize, bytes: &[u8], start: usize, end: usize) -> usize
+    requires { ⌜ (start ≤ end) × (end ≤ length (now bytes)) × (at + length (hex (slice start end (now bytes))) < 2 ^ 64) ⌝ }
+    ensures { λ r. ⌜ Put (now (text .entry)) at (hex (slice start end (now (bytes .entry)))) r (now (text .exit)) ⌝ }
+{
+    let mut here = at;
+    let mut i = start;
+    while i < end {
+        here = put_hex_byte(text, here, bytes[i]);
+        i += 1;
+    }
+    here
+}
+
+// A number in decimal.
+pub(crate) fn put_decimal(text: &mut [u8], at: usize, value: u32) -> usize
+    requires { ⌜ at + length (decimal value) < 2 ^ 64 ⌝ }
+    ensures { λ r. ⌜ Put (now (text .entry)) at (decimal value) r (now (text .exit)) ⌝ }
+{
+    if value < 10 {
+        return put_byte(text, at, b'0' + value as u8);
+    }
+    let next = put_decimal(text, at, value / 10);
+    put_byte(text, next, b'0' + (value % 10) as u8)
+}

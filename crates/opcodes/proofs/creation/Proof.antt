@@ -1,0 +1,42 @@
+-- Each arm is the name of its opcode; the arm of the rest is for the opcodes that have none.
+-- Assumes nothing.
+use mathlib.Core.Path.{refl}
+use Rattle.opcodes.specs.Names.{lookup, opNames, opName, padded}
+use Rattle.opcodes.specs.Text.{asBytes}
+use Rattle.opcodes.proofs.Naming.{named, past, unnamed}
+use Rattle.opcodes.proofs.creation.Statement.{statement}
+use Rattle.opcodes.proofs.creation.Tie as tie
+
+unknown-name-requires : tie.Need-unknown-name-requires
+unknown-name-requires c κs = tt
+
+returns : tie.Need-returns
+unfolding padded opName opNames lookup asBytes
+returns c = named _ 240 _ (c .match .keys1) refl
+
+returns-2 : tie.Need-returns-2
+unfolding padded opName opNames lookup asBytes
+returns-2 c = named _ 241 _ (c .match .keys2) refl
+
+returns-3 : tie.Need-returns-3
+unfolding padded opName opNames lookup asBytes
+returns-3 c = named _ 242 _ (c .match .keys3) refl
+
+returns-4 : tie.Need-returns-4
+unfolding padded opName opNames lookup asBytes
+returns-4 c = named _ 243 _ (c .match .keys4) refl
+
+returns-5 : tie.Need-returns-5
+unfolding padded opName opNames lookup asBytes
+returns-5 c = named _ 244 _ (c .match .keys5) refl
+
+returns-6 : tie.Need-returns-6
+unfolding padded opName opNames lookup asBytes
+returns-6 c = named _ 245 _ (c .match .keys6) refl
+
+returns-7 : tie.Need-returns-7
+unfolding opNames lookup
+returns-7 c = unnamed _ 246 4 _ refl (past _ 240 6 (c .before .before .pre .0) (c .before .match .rest)) (c .before .before .pre .1) (c .unknown-name .ensures)
+
+pub creation-spec : {M : Type 1} → statement M
+creation-spec = tie.close (tie.spec unknown-name-requires returns returns-2 returns-3 returns-4 returns-5 returns-6 returns-7)
