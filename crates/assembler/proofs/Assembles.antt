@@ -1,0 +1,94 @@
+-- Laws for `assemble`: one for each way that it goes, each giving the whole contract. Assumes nothing.
+use Prim.Native.Nat.{ℕ, _+_, _*_, _-_, _≤_, _<_}
+use native.Mathlib.Omega.{arith}
+use mathlib.Core.Path.{_≡_, refl, sym, ap, _∙_, subst}
+use mathlib.Core.Bool.{true, false}
+use mathlib.Core.List.{List}
+use lib.ListN.{length, replicate}
+use Rattle.units.specs.declared.reply.Refusal.{Refusal}
+use Rattle.units.specs.declared.reply.Refusal.the-variants.{ResultFull}
+use Rattle.records.specs.Store.{Store}
+use Rattle.records.specs.Sections.{decode}
+use Rattle.store.specs.Calls.{over}
+use Rattle.layout.specs.Passes.{entry}
+use Rattle.layout.specs.Answer.{Answer, laidOut, refused as noLayout}
+use Rattle.settling.specs.Settle.{settleAnswer, settledOf, tableAfter}
+use Rattle.settling.specs.declared.Settled.{Settled}
+use Rattle.settling.specs.declared.Settled.the-variants.{LaidOut, Refused}
+use Rattle.emission.specs.Emission.{codeOf}
+use Rattle.assembler.specs.Assemble.{Reply, written, refusalReply, Outcome, refusal, isFull, assembly}
+use Rattle.assembler.specs.Demand3.{Demand3}
+use Rattle.assembler.specs.Instructions.{CodePushes}
+use Rattle.assembler.proofs.Laid.{laid}
+use Rattle.assembler.proofs.Outcomes.{outcome-refused, outcome-full, outcome-written, fits-law}
+use Rattle.assembler.proofs.Demand3.{demand-3-assembly}
+use Rattle.assembler.proofs.Instructions.{assembly-pushes}
+
+module _ (w : ℕ) (st : Store) (n : ℕ) (result : List ℕ) (position : ℕ) where
+  -- the contract, of an answer, a table and a result
+  abbrev pub Kept : Reply → List ℕ → List ℕ → Type 0
+  Kept reply table′ result′ =
+      (reply ≡ assembly w st n result position .reply)
+      × ((table′ ≡ assembly w st n result position .table)
+      × ((result′ ≡ assembly w st n result position .result)
+      × (Demand3 w st n result position reply table′ result′
+      × CodePushes w st position reply table′ result′)))
+
+  -- an outcome that is the defined one keeps it
+  kept : (o : Outcome) → assembly w st n result position ≡ o → Kept (o .reply) (o .table) (o .result)
+  kept o e = (
+    sym (ap (λ (x : Outcome). x .reply) e),
+    (
+      sym (ap (λ (x : Outcome). x .table) e),
+      (
+        sym (ap (λ (x : Outcome). x .result) e),
+        (
+          subst (λ (x : Outcome). Demand3 w st n result position (x .reply) (x .table) (x .result)) e (demand-3-assembly w st n result position),
+          subst (λ (x : Outcome). CodePushes w st position (x .reply) (x .table) (x .result)) e (assembly-pushes w st n result position),
+        ),
+      ),
+    ),
+  )
+
+  -- 6 to 12
+  pub kept-refused : (r : Refusal) (table′ : List ℕ) → settledOf (settleAnswer w n st) ≡ Refused r → table′ ≡ tableAfter n (settleAnswer w n st)
+      → Kept (refusalReply r) table′ result
+  kept-refused r table′ e t = go (settleAnswer w n st) refl e t
+    where
+      go : (a : Answer) → settleAnswer w n st ≡ a → settledOf a ≡ Refused r → table′ ≡ tableAfter n a → Kept (refusalReply r) table′ result
+      go (laidOut table size k) h f g = let z : _≡_ {A = ℕ} 0 1 = cc in absurd (omega arith)
+      go (noLayout r′) h f g =
+          let same : r′ ≡ r = cc in
+          subst (λ (x : List ℕ). Kept (refusalReply r) x result) (sym g) (kept (refusal n result r) (outcome-refused w st n result position r (h ∙ ap noLayout same)))
+
+  -- laid out
+  pub laid-table : (size k : ℕ) (table′ : List ℕ) → settledOf (settleAnswer w n st) ≡ LaidOut size k → table′ ≡ tableAfter n (settleAnswer w n st)
+      → settleAnswer w n st ≡ laidOut table′ size k
+  laid-table size k table′ e t = go (settleAnswer w n st) refl e t
+    where
+      go : (a : Answer) → settleAnswer w n st ≡ a → settledOf a ≡ LaidOut size k → table′ ≡ tableAfter n a → settleAnswer w n st ≡ laidOut table′ size k
+      go (laidOut table s q) h f g =
+          let a : s ≡ size = cc in
+          let b : q ≡ k = cc in
+          cc
+      go (noLayout r) h f g = let z : _≡_ {A = ℕ} 0 1 = cc in absurd (omega arith)
+
+  module _ (table : List ℕ) (size k : ℕ) (e : settleAnswer w n st ≡ laidOut table size k) where
+    -- 13
+    pub kept-full : (table′ : List ℕ) → isFull (length result) position size ≡ true → table′ ≡ replicate n 0 → Kept (refusalReply (ResultFull k)) table′ result
+    kept-full table′ f z =
+        subst (λ (x : List ℕ). Kept (refusalReply (ResultFull k)) x result) (sym z)
+        (kept (refusal n result (ResultFull k)) (outcome-full w st n result position table size k e f))
+
+    module _ (f : isFull (length result) position size ≡ false) where
+      -- the code fits
+      pub code-fits : position + length (codeOf (entry table) (decode w st)) ≤ length result
+      code-fits =
+          omega (arith, fits-law (length result) position size .0 f, laid w n st table size k e .codeLong)
+
+      -- written
+      pub kept-written : (result′ : List ℕ) → result′ ≡ over result position (codeOf (entry table) (decode w st)) → Kept (written size k) table result′
+      kept-written result′ h =
+          subst (λ (x : List ℕ). Kept (written size k) table x) (sym h)
+          (kept (record { reply = written size k; table = table; result = over result position (codeOf (entry table) (decode w st)) })
+          (outcome-written w st n result position table size k e f))

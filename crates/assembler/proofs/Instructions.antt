@@ -1,0 +1,54 @@
+-- The written code against the Yellow Paper, for every store: what the theorem over lists says of the result that is left. Assumes nothing.
+use Prim.Native.Nat.{ℕ, _+_, _*_, _≤_, _<_, _^_}
+use native.Mathlib.Omega.{arith}
+use mathlib.Core.Path.{_≡_, refl, sym, ap, _∙_, subst}
+use mathlib.Core.Bool.{Bool, true, false}
+use mathlib.Core.List.{List}
+use lib.ListN.{length}
+use Rattle.units.specs.declared.reply.Refusal.the-variants.{ResultFull}
+use Rattle.records.specs.Store.{Store}
+use Rattle.records.specs.Sections.{decode}
+use Rattle.store.specs.Calls.{over}
+use Rattle.layout.specs.Passes.{entry}
+use Rattle.layout.specs.Answer.{Answer, laidOut, refused as noLayout}
+use Rattle.settling.specs.Settle.{settleAnswer}
+use Rattle.emission.specs.Emission.{codeOf}
+use Rattle.emission.specs.Pushes.{ReferencesHere}
+use Rattle.emission.proofs.Places.{still-sum, sizes-five}
+use Rattle.emission.proofs.Pushes.{references-here}
+use Rattle.assembler.specs.Assemble.{written, Outcome, refusal, isFull, assembly}
+use Rattle.assembler.specs.Instructions.{CodePushes}
+use Rattle.assembler.proofs.Decoded.{stored-small}
+use Rattle.assembler.proofs.Laid.{laid}
+use Rattle.assembler.proofs.Outcomes.{outcome-refused, outcome-full, outcome-written, fits-law}
+
+module _ (w : ℕ) (st : Store) (n : ℕ) (result : List ℕ) (position : ℕ) where
+  -- of an outcome
+  abbrev Pushes : Outcome → Type 0
+  Pushes o = CodePushes w st position (o .reply) (o .table) (o .result)
+
+  -- the code that was written
+  code-pushes : (table : List ℕ) (size k : ℕ) → settleAnswer w n st ≡ laidOut table size k → isFull (length result) position size ≡ false
+      → ReferencesHere (decode w st) table (over result position (codeOf (entry table) (decode w st))) position
+  code-pushes table size k e f =
+      let l = laid w n st table size k e in
+      let small : size < 2 ^ 32 =
+      omega (arith, still-sum (entry table) (decode w st) 0 size (l .still), sizes-five (entry table) (decode w st), stored-small w st (l .facts)) in
+      references-here (decode w st) table size (l .still) result position (omega (arith, fits-law (length result) position size .0 f)) small
+      (l .says .0 .1) (l .says .2)
+
+  -- whatever the settling answers
+  pushes : (a : Answer) → settleAnswer w n st ≡ a → Pushes (assembly w st n result position)
+  pushes (noLayout r) e =
+      subst Pushes (sym (outcome-refused w st n result position r e)) (λ size k h. let z : _≡_ {A = ℕ} 0 1 = cc in absurd (omega arith))
+  pushes (laidOut table size k) e = go (isFull (length result) position size) refl
+    where
+      go : (b : Bool) → isFull (length result) position size ≡ b → Pushes (assembly w st n result position)
+      go true f =
+          subst Pushes (sym (outcome-full w st n result position table size k e f)) (λ s q h. let z : _≡_ {A = ℕ} 0 1 = cc in absurd (omega arith))
+      go false f = subst Pushes (sym (outcome-written w st n result position table size k e f)) (λ s q h. code-pushes table size k e f)
+
+-- of assembly as it is defined
+pub assembly-pushes : (w : ℕ) (st : Store) (n : ℕ) (result : List ℕ) (position : ℕ)
+    → CodePushes w st position (assembly w st n result position .reply) (assembly w st n result position .table) (assembly w st n result position .result)
+assembly-pushes w st n result position = pushes w st n result position (settleAnswer w n st) refl

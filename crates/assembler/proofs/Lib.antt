@@ -1,0 +1,9 @@
+pub mod Writes
+pub mod Decoded
+pub mod Laid
+pub mod Outcomes
+pub mod Demand3
+pub mod Instructions
+pub mod Answers
+pub mod Assembles
+pub mod Leaves

@@ -1,0 +1,14 @@
+-- Demand 2, 'the code is also proved against the Yellow Paper and EIP-3855': of the answer, table and result that assembly leaves, of any
+-- store. Its proof is in proofs/Instructions. Assumes nothing.
+use Prim.Native.Nat.{ℕ}
+use mathlib.Core.Path.{_≡_}
+use mathlib.Core.List.{List}
+use Rattle.records.specs.Store.{Store}
+use Rattle.records.specs.Sections.{decode}
+use Rattle.emission.specs.Pushes.{ReferencesHere}
+use Rattle.assembler.specs.Assemble.{Reply, written}
+
+-- where code is written, each pushed reference is one push instruction in the result, at the position plus the widths before it
+abbrev pub CodePushes : ℕ → Store → ℕ → Reply → List ℕ → List ℕ → Type 0
+CodePushes w st position reply table′ result′ =
+    (size passes : ℕ) → reply ≡ written size passes → ReferencesHere (decode w st) table′ result′ position

@@ -1,0 +1,61 @@
+// Document 01, modules 3 and 4: assembly. Settling, then the code into the lent result from a position on.
+mod write;
+
+use records::Assembler;
+use settling::Settled;
+use settling::clear;
+use settling::settle;
+use units::Refusal;
+use write::write_code;
+ghost use mathlib.Core.Path.{_≡_};
+ghost use lib.ListN.{length};
+ghost use Rattle.records.specs.Store.{storeOf, wordsPerSection};
+ghost use Rattle.assembler.specs.Assemble.{assembledReply, isFull, assembly};
+ghost use Rattle.assembler.specs.Demand3.{Demand3};
+ghost use Rattle.assembler.specs.Instructions.{CodePushes};
+
+// Written: the code's length and the passes made; or a refusal, 6 to 13, with the table all 0 and the result unchanged.
+pub enum Assembled {
+    Written { length: u32, passes: u32 },
+    Refused(Refusal),
+}
+
+// Settles the store's sections and writes their code into the result from the position on. Refusals: 6 damaged, 7 short table,
+// 8 unplaced, 9 placed apart, 10 too narrow, 11 unsettled, 12 backward, 13 result full.
+pub fn assemble(
+    store: Assembler,
+    bytes: &[u8],
+    words: &[u32],
+    table: &mut [u32],
+    result: &mut [u8],
+    position: usize,
+) -> Assembled
+    ensures reply { λ r. ⌜ assembledReply r ≡ assembly wordsPerSection (storeOf store (now (bytes .entry)) (now (words .entry))) (length (now (table .entry))) (now (result .entry)) position .reply ⌝ }
+    ensures table { λ _. ⌜ now (table .exit) ≡ assembly wordsPerSection (storeOf store (now (bytes .entry)) (now (words .entry))) (length (now (table .entry))) (now (result .entry)) position .table ⌝ }
+    ensures result { λ _. ⌜ now (result .exit) ≡ assembly wordsPerSection (storeOf store (now (bytes .entry)) (now (words .entry))) (length (now (table .entry))) (now (result .entry)) position .result ⌝ }
+    ensures shortest { λ r. ⌜ Demand3 wordsPerSection (storeOf store (now (bytes .entry)) (now (words .entry))) (length (now (table .entry))) (now (result .entry)) position (assembledReply r) (now (table .exit)) (now (result .exit)) ⌝ }
+    ensures pushes { λ r. ⌜ CodePushes wordsPerSection (storeOf store (now (bytes .entry)) (now (words .entry))) position (assembledReply r) (now (table .exit)) (now (result .exit)) ⌝ }
+{
+    let settled = settle(store, bytes, words, table);
+    match settled {
+        Settled::Refused(refusal) => Assembled::Refused(refusal),
+        Settled::LaidOut { length, passes } => {
+            if is_full(result.len(), position, length) {
+                clear(table);
+                return Assembled::Refused(Refusal::ResultFull { passes });
+            }
+            write_code(store, bytes, words, table, result, position);
+            Assembled::Written { length, passes }
+        }
+    }
+}
+
+// 13: the position is past the result's end, or the length is above what is left.
+fn is_full(room: usize, position: usize, length: u32) -> bool
+    ensures { λ r. ⌜ r ≡ isFull room position length ⌝ }
+{
+    if room < position {
+        return true;
+    }
+    room - position < (length as usize)
+}

@@ -1,0 +1,1 @@
+// 'Layouts tried by hand' (document 01): theorems alone, in proofs/Lines.

@@ -1,0 +1,5 @@
+pub mod Compose
+pub mod Places
+pub mod Searches
+pub mod Sections
+pub mod Turns

@@ -1,0 +1,90 @@
+// Document 01, module 3: the tests for 7, 8 and 9, and the settling. The lent table holds what the tests need to remember; it is 0 again when they refuse.
+mod passes;
+mod piece;
+mod search;
+mod table;
+
+use crate::passes::run_passes;
+use crate::search::first_apart;
+use crate::search::first_backward;
+use crate::search::first_short;
+use crate::search::first_unplaced;
+use crate::table::place;
+use crate::table::start;
+use records::Assembler;
+use records::Soundness;
+use records::check_store;
+pub use table::clear;
+use units::Refusal;
+ghost use mathlib.Core.Path.{_≡_};
+ghost use lib.ListN.{length, replicate};
+ghost use Rattle.records.specs.Store.{storeOf, wordsPerSection};
+ghost use Rattle.layout.specs.Passes.{settle};
+ghost use Rattle.layout.specs.Answer.{answer, settlingAnswer};
+ghost use Rattle.settling.specs.Pieces.{sectionsOf, Whole, Fitting};
+ghost use Rattle.settling.specs.Settle.{settleAnswer, settledOf, tableAfter};
+
+// Settled: the code's length in all and the passes made; or a refusal, 6 to 12, with the table all 0.
+pub enum Settled {
+    LaidOut { length: u32, passes: u32 },
+    Refused(Refusal),
+}
+
+// Settling over a store and a lent table, whatever they hold. Refusals: 6 damaged, 7 short table, 8 unplaced, 9 placed apart, 10 too narrow, 11 unsettled, 12 backward.
+pub fn settle(store: Assembler, bytes: &[u8], words: &[u32], table: &mut [u32]) -> Settled
+    ensures reply { λ r. ⌜ r ≡ settledOf (settleAnswer wordsPerSection (length (now (table .entry))) (storeOf store (now (bytes .entry)) (now (words .entry)))) ⌝ }
+    ensures table { λ _. ⌜ now (table .exit) ≡ tableAfter (length (now (table .entry))) (settleAnswer wordsPerSection (length (now (table .entry))) (storeOf store (now (bytes .entry)) (now (words .entry)))) ⌝ }
+{
+    clear(table); // on a 6 too
+    match check_store(store, bytes, words) {
+        Soundness::Damaged(section) => Settled::Refused(Refusal::Damaged { section }),
+        Soundness::Sound => settle_whole(store, bytes, words, table),
+    }
+}
+
+// 7, 8 and 9, then the settling, of an undamaged store.
+fn settle_whole(store: Assembler, bytes: &[u8], words: &[u32], table: &mut [u32]) -> Settled
+    requires { ⌜ Whole store (now bytes) (now words) ⌝ }
+    requires { ⌜ now table ≡ replicate (length (now table)) 0 ⌝ }
+    ensures reply { λ r. ⌜ r ≡ settledOf (answer (length (now (table .entry))) (sectionsOf store (now (bytes .entry)) (now (words .entry)))) ⌝ }
+    ensures table { λ _. ⌜ now (table .exit) ≡ tableAfter (length (now (table .entry))) (answer (length (now (table .entry))) (sectionsOf store (now (bytes .entry)) (now (words .entry)))) ⌝ }
+{
+    let short = first_short(store, bytes, words, table.len());
+    if short < store.sections {
+        return Settled::Refused(Refusal::ShortTable { section: short });
+    }
+    place(store, bytes, words, table);
+    let unplaced = first_unplaced(store, bytes, words, table);
+    let apart = first_apart(store, bytes, words, table);
+    clear(table);
+    if unplaced < store.sections {
+        return Settled::Refused(Refusal::Unplaced { section: unplaced });
+    }
+    if apart < store.sections {
+        return Settled::Refused(Refusal::PlacedApart { section: apart });
+    }
+    settle_placed(store, bytes, words, table)
+}
+
+// The start table, the passes and 12, where 7 to 9 are not the answer.
+fn settle_placed(store: Assembler, bytes: &[u8], words: &[u32], table: &mut [u32]) -> Settled
+    requires { ⌜ Fitting store (now bytes) (now words) (length (now table)) ⌝ }
+    requires { ⌜ now table ≡ replicate (length (now table)) 0 ⌝ }
+    ensures reply { λ r. ⌜ r ≡ settledOf (settlingAnswer (sectionsOf store (now (bytes .entry)) (now (words .entry))) (settle (length (now (table .entry))) (sectionsOf store (now (bytes .entry)) (now (words .entry))))) ⌝ }
+    ensures table { λ _. ⌜ now (table .exit) ≡ tableAfter (length (now (table .entry))) (settlingAnswer (sectionsOf store (now (bytes .entry)) (now (words .entry))) (settle (length (now (table .entry))) (sectionsOf store (now (bytes .entry)) (now (words .entry))))) ⌝ }
+{
+    start(store, bytes, words, table);
+    let reply = run_passes(store, bytes, words, table);
+    let Settled::LaidOut { length: _, passes } = reply else {
+        return reply;
+    };
+    let backward = first_backward(store, bytes, words, table);
+    if backward < store.sections {
+        clear(table);
+        return Settled::Refused(Refusal::Backward {
+            section: backward,
+            passes,
+        });
+    }
+    reply
+}
