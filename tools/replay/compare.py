@@ -38,7 +38,7 @@ def smaller(program, whole):
 
 def main(program, first, last):
     lines = found = edges = 0
-    for what, whole in gen.edges():
+    for what, whole in (*gen.edges(), *gen.line_11()):
         edges += 1
         if d := differs(program, whole):
             print(f"{what}: line, program, model: {d}", flush=True)

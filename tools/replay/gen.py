@@ -2,8 +2,13 @@
 """Writes a random replay script to standard output. Usage: gen.py SEED
 Most scripts have small slices, so that every boundary is met; some are damaged by hand, and some are malformed."""
 import random, struct, sys
+import model
 
 TOP = 2**32 - 1
+RESTLESS = (  # steps; data as its length
+    ((40, 2, 0), (3, 252, 0), (1, 2, 0), (3, 252, 0), (40, 2, 0), (1, 1, 0), (40, 0, 1), (1, 3, 0), (1, 0, 0), (40, 3, 2)),
+    ((1, 1, 0), (4, 2, 0), (40, 0, 2), (32, 0, 3), (1, 0, 0), (40, 3, 0), (1, 3, 0), (3, 252, 0), (40, 0, 2), (1, 2, 0)),
+)
 FORMS = [0, 1, 2, 3, 4, 8, 9, 10, 11, 12]
 MARKS = [0, 1, 2, 7, 255, 1048574, 1048575, 1048576, 2**24, 2**31, TOP]
 LIMITS = (131072, 65536, 16384, 262144, 1048576)
@@ -19,9 +24,17 @@ class Script:
             self.nb = r.choice([131071, 131072])
         if r.random() < 0.02:
             self.nw = r.choice([65535, 65536])
+        self.coding = r.random() < 0.5
+        if self.coding:  # room for assembly, and for data around the boundaries of widths
+            self.nb = r.choice([300, 600, 1200] if r.random() < 0.97 else [70000, 131072])
+            self.nw = r.choice([90, 301, 600])
         self.lengths = [self.nb, self.nw, *(r.choice([0, 1, 5, most]) for most in LIMITS[2:])]
+        if self.coding:
+            self.lengths[2] = r.choice([1, 5, 9, 10, 10, 10, 11, 16384])
+            self.lengths[3] = r.choice([self.nb + 500, LIMITS[3]])
         self.pool = self.make_pool()
         self.steps = []
+        self.spans = []  # (number of a step, the kind that its section gets)
 
     def make_pool(self):
         r = self.r
@@ -150,7 +163,7 @@ class Script:
 
     def show(self):
         r = self.r
-        kind, n = r.choice([(24, self.nb), (25, self.nw)])
+        kind, n = r.choice([(24, self.nb), (25, self.nw), (26, self.lengths[2]), (27, self.lengths[3]), (28, self.lengths[4])])
         if r.random() < 0.2:
             self.add(kind, self.near(0, n, r.randint(0, n)), self.near(0, n, TOP))
         elif n > 2000 and r.random() < 0.9:
@@ -158,6 +171,117 @@ class Script:
             self.add(kind, a, min(n, a + r.randint(0, 1100)))
         else:
             self.add(kind, 0, n)
+
+    def listing(self):
+        self.add(21, self.number(), self.number())
+        if self.r.random() < 0.5:
+            self.show()
+
+    def assembly(self):
+        r, n = self.r, self.lengths[3]
+        if r.random() < 0.1:
+            self.add(19, self.near(0, self.lengths[2], r.randint(0, self.lengths[2])), self.number())
+        self.add(20, 0 if r.random() < 0.6 else self.near(0, 1, 7, n, n - r.randint(0, min(n, 400)), TOP), self.number())
+        self.told()
+
+    def told(self):
+        """What an assembly left: the first entries of the table, and of the result."""
+        self.add(26, 0, min(self.lengths[2], 12))
+        self.add(27, 0, min(self.lengths[3], 1400))
+        for _ in range(self.r.randint(0, 4)):
+            self.add(22, self.r.choice([0, 1, 2, 3, 5, 256, self.r.randint(0, 300)]), min(self.lengths[3], self.near(3, 300)))
+
+    def chunk(self, n):
+        """Data of this length."""
+        at = self.pool.find(bytes(n))
+        if at < 0:
+            at = len(self.pool)
+            self.pool += bytes(n)
+        self.add(3, at, at + n)
+
+    def code(self):
+        """A store to be assembled: marks mostly placed once, references of every form, data around the boundaries of widths."""
+        r = self.r
+        self.add(r.choice([0, 11]), 0, 0)
+        k = r.choice([1, 2, 3, 5, 9])
+        loose = r.choice([0, 0, 0.05, 0.3])  # how often a set size or a delta's order is left to chance
+        parts = [("mark", m) for m in range(k) if r.random() < 0.98]
+        parts += [("mark", r.randint(0, k)) for _ in range(2) if r.random() < 0.08]
+        for _ in range(r.choice([1, 3, 6, 20])):
+            x = r.random()
+            if x < 0.25:
+                left = r.choice([250, 256, 65530]) if self.nb > 65536 else r.choice([1, 2, 120, 245, 250, 256])
+                parts.append(("data", max(0, left + r.choice([-6, -5, -4, -3, -2, -1, 0, 0, 0, 1, 2, 3]))))
+            elif x < 0.4:
+                parts.append(("op", r.choice([0x5B, 0x5B, r.randint(0, 255)])))
+            elif x < 0.7:
+                parts.append(("direct", r.randint(0, k - 1)))
+            else:
+                parts.append(("delta", r.randint(0, k - 1), r.randint(0, k - 1)))
+        r.shuffle(parts)
+        if r.random() < 0.6:  # a mark's offset near the boundary of two widths
+            i = r.randint(0, len(parts))
+            least = sum(of[0] if what == "data" else what != "mark" for what, *of in parts[:i])
+            parts.insert(r.randint(0, i), ("data", max(0, (65536 if self.nb > 65536 else 256) - least - r.randint(0, 12))))
+        at = {of[0]: i for i, (what, *of) in enumerate(parts) if what == "mark"}
+        form = lambda: r.choice([0, 8, 8, 2, 3, 4, 10, 11, 12, *([1, 9] if r.random() < 0.2 + loose else [])])
+        for what, *of in parts:
+            if what == "mark":
+                self.add(1, of[0])
+            elif what == "data":
+                self.chunk(of[0])
+            elif what == "op":
+                self.add(2, of[0])
+            elif what == "direct":
+                self.add(4, of[0] if r.random() < 0.99 else r.randint(0, 12), form())
+            else:
+                start, end = of if r.random() < loose else sorted(of, key=lambda m: at.get(m, 0))
+                self.add(32 + form(), start, end)
+        self.add(20, 0 if r.random() < 0.8 else r.randint(0, 9))
+        self.told()
+        if r.random() < 0.3:
+            self.damage()
+            self.assembly()
+
+    def restless(self):
+        """Ten sections that never settle, sometimes with one thing changed."""
+        r = self.r
+        self.add(0)
+        for i, (kind, a, b) in enumerate(r.choice(RESTLESS)):
+            if r.random() < 0.02:
+                a += 1
+            self.chunk(a) if kind == 3 else self.add(kind, a, b)
+        self.add(20, 0)
+        self.told()
+
+    def landing(self):
+        r, n = self.r, self.lengths[3]
+        end = self.near(0, n, r.randint(0, n), TOP)
+        self.add(22, self.near(0, end, r.randint(0, n), TOP), end)
+
+    def span(self, kind, what):
+        """A section of Ops (1) or Data (2) of its own, where the store takes it."""
+        at = len(self.pool)
+        self.pool += what
+        self.add(3, at, len(self.pool))
+        self.spans.append((len(self.steps), kind))
+
+    def good_store(self):
+        """A whole store that can be listed: every call, runs of pushes, adjacent and empty sections."""
+        r = self.r
+        self.add(r.choice([0, 11]), 0, 0)
+        for _ in range(r.choice([1, 3, 8, 30])):
+            if r.random() < 0.6:
+                self.build()
+            else:
+                pushes = [bytes([0x5F + n]) + bytes(r.getrandbits(8) for _ in range(n)) for n in (r.randint(0, 32) for _ in range(r.randint(0, 3)))]
+                run = b"".join(pushes) + bytes(r.getrandbits(8) for _ in range(r.randint(0, 4)))
+                self.span(r.choice([1, 1, 2]), run[: r.randint(0, len(run))])
+        self.add(21)
+        if r.random() < 0.5:
+            self.damage()
+            self.add(21)
+        self.show()
 
     def odd(self):
         r = self.r
@@ -175,9 +299,11 @@ class Script:
 
     def body(self):
         r = self.r
-        ways = r.choice([[8, 0, 1, 0], [6, 3, 2, 1], [3, 5, 2, 1], [8, 1, 1, 1]])
-        for _ in range(r.choice([3, 20, 60, 150])):
-            way = r.choices([self.build, self.damage, self.show, self.odd], ways)[0]
+        mixes = [[8, 0, 1, 0, 1, 0, 1, 0, 0, 0], [6, 3, 2, 1, 2, 1, 2, 0, 0, 0], [3, 5, 2, 1, 2, 1, 2, 0, 0, 0], [8, 1, 1, 1, 1, 1, 1, 0, 0, 0], [1, 1, 1, 0, 1, 1, 1, 5, 0, 0]]
+        ways = [1, 1, 1, 0, 1, 1, 1, 1, 12, r.choice([0, 0, 1])] if self.coding else r.choice(mixes)
+        many = r.choice([1, 3, 10]) if sum(ways[7:]) else r.choice([3, 20, 60, 150])
+        for _ in range(many):
+            way = r.choices([self.build, self.damage, self.show, self.odd, self.listing, self.landing, self.assembly, self.good_store, self.code, self.restless], ways)[0]
             way()
             x = r.random()
             if x < 0.02:
@@ -186,8 +312,36 @@ class Script:
                 self.add(0, self.number(), self.number())
             elif x < 0.05:
                 self.fill_up()
-        self.add(24, 0, self.nb if self.nb <= 2000 else 2000)
-        self.add(25, 0, self.nw if self.nw <= 2000 else 2000)
+        self.add(21)
+        self.add(20, 0)
+        for kind, n in ((24, self.nb), (25, self.nw), (26, self.lengths[2]), (27, self.lengths[3]), (28, self.lengths[4])):
+            self.add(kind, 0, min(n, 2000))
+        self.fit()
+
+    def fit(self):
+        """Sets the kinds that `span` left, then, often, the listing buffer and the result to the length of a listing and of a code
+        with its position, or one off it."""
+        r = self.r
+        whole = model.Model((*self.lengths[:3], *LIMITS[3:]), self.pool)
+        marked, texts, codes, steps = dict(self.spans), [], [], []
+        for i, s in enumerate(self.steps, 1):
+            kind, a, b = struct.unpack(">BII", s)
+            line = whole.step(kind, a, b)
+            steps.append(s)
+            if line and line.startswith("listing "):
+                texts.append(int(line.split()[1]))
+            if line and line.startswith("length "):
+                codes.append(a + int(line.split()[1]))
+            if i in marked and line.startswith("stored ") and 0 < whole.s:
+                steps.append(struct.pack(">BII", 17, 3 * whole.s - 3, marked[i]))
+                whole.step(17, 3 * whole.s - 3, marked[i])
+        self.steps = steps
+        if texts and r.random() < 0.7:
+            self.lengths[4] = max(0, r.choice(texts) + r.choice([0, 0, -1, 1]))
+            self.add(28, 0, self.lengths[4])
+        if codes and r.random() < 0.5:
+            self.lengths[3] = max(0, r.choice(codes) + r.choice([0, 0, -1, 1]))
+            self.add(27, 0, self.lengths[3])
 
     def text(self):
         r = self.r
@@ -228,7 +382,7 @@ def edges():
     for i, most in enumerate(LIMITS):
         for n in (0, 1, most - 1, most, most + 1, 2**31, TOP):
             yield f"length {i} is {n}", whole([n if i == j else 3 for j in range(5)])
-    yield "every length at its limit", whole(LIMITS, rest=call + struct.pack(">BII", 24, 131070, 131072) + struct.pack(">BII", 25, 65530, 65536))
+    yield "every length at its limit", whole(LIMITS, rest=call + b"".join(struct.pack(">BII", *s) for s in ((24, 131070, 131072), (25, 65530, 65536), (21, 0, 0), (28, 1048570, 1048576), (22, 262143, 262144), (20, 262143, 0), (20, 262144, 0), (26, 16380, 16384), (27, 262140, 262144))))
     for n in (0, 1, 8, 9, 10, 17, 18, 19, 27, 2**31, TOP - 24, TOP - 23, TOP - 17, TOP - 8, TOP):
         yield f"a pool of {n} in 18 bytes", whole(count=n)
         yield f"a pool of {n} and 18 bytes more", whole(count=n, rest=bytes(min(n, 99)) + call)
@@ -242,6 +396,16 @@ def edges():
         steps = b"".join(struct.pack(">BII", kind, a, b) for a in (0, 1, 3, 4, 255, 256, TOP) for b in (0, 1, 3, 4, 255, 256, TOP))
         for lengths in ((3, 3, 3, 3, 3), (0, 0, 0, 0, 0), (256, 300, 3, 3, 3)):
             yield f"kind {kind} with slices {lengths}", whole(lengths, 3, b"abc" + steps + struct.pack(">BII", 24, 0, lengths[0]) + struct.pack(">BII", 25, 0, lengths[1]))
+
+
+def line_11():
+    """Both cases of document 01's line 11: (what, script)."""
+    step = lambda *of: struct.pack(">BII", *of)
+    for n, p in ((1022, 61449), (1023, 61445)):
+        refs = b"".join(step(4, m, 8) for m in range(n, 0, -1))
+        marks = step(1, n, 0) + b"".join(step(3, 0, 1) + step(1, m, 0) for m in range(n - 1, 0, -1))
+        ends = step(20, 0, 0) + step(26, 0, 1100) + step(27, 0, 70000)
+        yield f"line 11, {n} references", struct.pack(">6I", 65536, 9300, 1100, 70000, 0, p) + bytes(p) + refs + step(3, 0, p) + marks + ends
 
 
 def script(seed):

@@ -1,18 +1,40 @@
 #!/usr/bin/env python3
-"""An independent model of `replay` for the building calls. Reads a script on standard input, prints what replay must print.
-Written from REPLAY.md, document 01 (modules 1, 2, Replies) and READINGS 1 to 12; it shares nothing with the Rattle code.
-Kinds 19 to 22 and 26 to 28 come with later issues; until then they are bad steps."""
+"""An independent model of `replay`. Reads a script on standard input, prints what replay must print.
+Written from REPLAY.md, document 01 (modules 1 to 6, Replies), READINGS 1 to 25, and op.rs for the names; it shares nothing with
+the Rattle code."""
 import sys
 
 LIMITS = (131072, 65536, 16384, 262144, 1048576)
 MAX_SCRIPT = 1048576
 MAX_BYTES, MAX_SECTIONS, MAX_MARK = 16777216, 1048576, 1048575
+PASSES = 1024
 FORMS = (0, 1, 2, 3, 4, 8, 9, 10, 11, 12)
+
+# -- document 01, module 5: the names of op.rs; a row of 16 bytes each, `-` where it has none
+NAMES = """
+STOP ADD MUL SUB DIV SDIV MOD SMOD ADDMOD MULMOD EXP SIGNEXTEND - - - -
+LT GT SLT SGT EQ ISZERO AND OR XOR NOT BYTE SHL SHR SAR CLZ -
+KECCAK256 - - - - - - - - - - - - - - -
+ADDRESS BALANCE ORIGIN CALLER CALLVALUE CALLDATALOAD CALLDATASIZE CALLDATACOPY
+CODESIZE CODECOPY GASPRICE EXTCODESIZE EXTCODECOPY RETURNDATASIZE RETURNDATACOPY EXTCODEHASH
+BLOCKHASH COINBASE TIMESTAMP NUMBER PREVRANDAO GASLIMIT CHAINID SELFBALANCE BASEFEE BLOBHASH BLOBBASEFEE - - - - -
+POP MLOAD MSTORE MSTORE8 SLOAD SSTORE JUMP JUMPI PC MSIZE GAS JUMPDEST TLOAD TSTORE MCOPY PUSH0
+""".split()
+NAMES += [f"PUSH{n}" for n in range(1, 33)] + [f"DUP{n}" for n in range(1, 17)] + [f"SWAP{n}" for n in range(1, 17)]
+NAMES += [f"LOG{n}" for n in range(5)] + ["-"] * 75
+NAMES += "CREATE CALL CALLCODE RETURN DELEGATECALL CREATE2 - - - - STATICCALL - - REVERT INVALID SELFDESTRUCT".split()
+NAMES = ["UNKNOWN" if name == "-" else name for name in NAMES]
+assert len(NAMES) == 256
 
 
 class Refused(Exception):
-    def __init__(self, number, section=0):
-        self.number, self.section = number, section
+    def __init__(self, number, section=0, passes=0):
+        self.number, self.section, self.passes = number, section, passes
+
+
+def held(v):
+    """The bytes that hold a value."""
+    return 1 if v <= 255 else 2 if v <= 65535 else 3 if v <= 16777215 else 4
 
 
 class Model:
@@ -24,33 +46,71 @@ class Model:
         self.b = self.s = 0
         self.bytes = bytearray(b"\xa5" * self.lengths[0])
         self.words = [0xA5A5A5A5] * self.lengths[1]
+        self.table = [0xA5A5A5A5] * self.lengths[2]
+        self.result = bytearray(b"\xa5" * self.lengths[3])
+        self.text = bytearray(b"\xa5" * self.lengths[4])
 
     # -- document 01, module 2: what a building call tests
 
-    def last(self):
-        return self.words[3 * self.s - 3 : 3 * self.s]
+    def record(self, i):
+        return self.words[3 * i : 3 * i + 3]
 
-    def test(self):
-        """Number 6: the counts (section 0), then the last section (its index)."""
+    def last(self):
+        return self.record(self.s - 1)
+
+    def test_counts(self):
         if self.b > len(self.bytes) or self.b > MAX_BYTES:
             raise Refused(6)
         if self.s > MAX_SECTIONS or 3 * self.s > len(self.words):
             raise Refused(6)
+
+    def good(self, i, starts, ends):
+        """Section i keeps the rules; a span has its start and end among these."""
+        kind, x, y = self.record(i)
+        if kind == 0:
+            return x <= MAX_MARK and y == 0
+        if kind in (1, 2):
+            return x <= y and x in starts and y in ends
+        if kind == 3:
+            return x <= MAX_MARK and y in FORMS
+        return kind <= 13 and x <= MAX_MARK and y <= MAX_MARK
+
+    def test(self):
+        """Number 6: the counts (section 0), then the last section (its index)."""
+        self.test_counts()
         if self.s == 0:
             if self.b > 0:
                 raise Refused(6)
             return
-        kind, x, y = self.last()
-        if kind == 0:
-            good = x <= MAX_MARK and y == 0
-        elif kind in (1, 2):
-            good = x <= y and y == self.b
-        elif kind == 3:
-            good = x <= MAX_MARK and y in FORMS
-        else:
-            good = kind <= 13 and x <= MAX_MARK and y <= MAX_MARK
-        if not good:
+        if not self.good(self.s - 1, range(2**32), (self.b,)):
             raise Refused(6, self.s - 1)
+
+    # -- what modules 3 to 5 test: every section
+
+    def test_whole(self):
+        self.test_counts()
+        spans = [i for i in range(self.s) if self.record(i)[0] in (1, 2)]
+        if not spans and self.b > 0:
+            raise Refused(6)
+        end = 0
+        for i in range(self.s):
+            if not self.good(i, (end,), (self.b,) if spans[-1:] == [i] else range(2**32)):
+                raise Refused(6, i)
+            if self.record(i)[0] in (1, 2):
+                end = self.record(i)[2]
+
+    def sections(self):
+        """The sections of an undamaged store: ("mark", number), ("ops", bytes), ("data", bytes), ("ref", marks, size, pushed)."""
+        for i in range(self.s):
+            kind, x, y = self.record(i)
+            if kind == 0:
+                yield "mark", x
+            elif kind in (1, 2):
+                yield "ops" if kind == 1 else "data", bytes(self.bytes[x:y])
+            elif kind == 3:
+                yield "ref", (x,), y % 8, y >= 8
+            else:
+                yield "ref", (x, y), (kind - 4) % 5, kind < 9
 
     def room(self, sections, n):
         """4 for all of the call's bytes, then 5."""
@@ -127,14 +187,126 @@ class Model:
     def clear(self):
         self.b = self.s = 0
 
+    # -- document 01, modules 3 and 4
+
+    def test_marks(self, sections):
+        """Numbers 7, 8 and 9, each over the whole store."""
+        named = [(m[0],) if what == "mark" else m[0] if what == "ref" else () for what, *m in sections]
+        placed = {m[0] for what, *m in sections if what == "mark"}
+        for i, marks in enumerate(named):
+            if any(m >= len(self.table) for m in marks):
+                raise Refused(7, i)
+        for i, marks in enumerate(named):
+            if any(m not in placed for m in marks):
+                raise Refused(8, i)
+        first, between = {}, 0  # sections with bytes before a mark's first placing, and so far
+        for i, (what, *of) in enumerate(sections):
+            if what == "mark":
+                if first.setdefault(of[0], between) != between:
+                    raise Refused(9, i)
+            elif what == "ref" or of[0]:
+                between += 1
+
+    def value(self, marks):
+        """A reference's value by the table as it is; below 0 for a backward delta."""
+        return self.table[marks[-1]] - (self.table[marks[0]] if len(marks) == 2 else 0)
+
+    def settle(self, sections):
+        """The length in all, and the passes made."""
+        at = 0
+        for what, *of in sections:
+            if what == "mark":
+                self.table[of[0]] = at
+            elif what == "ref":
+                at += of[1] + of[2] if of[1] else 1
+            else:
+                at += len(of[0])
+        for number in range(1, PASSES + 1):
+            at, moved = 0, False
+            for i, (what, *of) in enumerate(sections):
+                if what == "mark":
+                    moved = moved or self.table[of[0]] != at
+                    self.table[of[0]] = at
+                elif what == "ref":
+                    marks, size, pushed = of
+                    v = max(0, self.value(marks))
+                    if size and size < held(v):
+                        raise Refused(10, i, number)
+                    at += size + pushed if size else 1 if pushed and v == 0 else held(v) + pushed
+                else:
+                    at += len(of[0])
+            if not moved:
+                return at, number
+        raise Refused(11, 0, PASSES)
+
+    def code(self, sections):
+        for what, *of in sections:
+            if what == "ref":
+                marks, size, pushed = of
+                v = self.value(marks)
+                n = size or (0 if pushed and v == 0 else held(v))
+                yield (bytes([0x5F + n]) if pushed else b"") + v.to_bytes(n, "big")
+            elif what != "mark":
+                yield of[0]
+
+    def assemble(self, position):
+        self.table[:] = [0] * len(self.table)
+        try:
+            self.test_whole()
+            sections = list(self.sections())
+            self.test_marks(sections)
+            length, passes = self.settle(sections)
+            for i, (what, *of) in enumerate(sections):
+                if what == "ref" and self.value(of[0]) < 0:
+                    raise Refused(12, i, passes)
+            if position > len(self.result) or length > len(self.result) - position:
+                raise Refused(13, 0, passes)
+        except Refused:
+            self.table[:] = [0] * len(self.table)
+            raise
+        code = b"".join(self.code(sections))
+        assert len(code) == length
+        self.result[position : position + length] = code
+        return f"length {length} passes {passes}"
+
+    # -- document 01, module 5
+
+    def lines(self):
+        for what, *of in self.sections():
+            if what == "mark":
+                yield f".mark{of[0]}:"
+            elif what == "data":
+                yield f"  data 0x{of[0].hex()} ({len(of[0])} bytes)"
+            elif what == "ops":
+                ops = of[0]
+                while ops:
+                    n = ops[0] - 0x5F if 0x60 <= ops[0] <= 0x7F else 0
+                    immediate = ops[1 : 1 + n]
+                    yield f"  {NAMES[ops[0]]}" + (f" 0x{immediate.hex()}" if n else "") + (" (truncated)" if len(immediate) < n else "")
+                    ops = ops[1 + n :]
+            else:
+                marks, size, pushed = of
+                name = f".mark{marks[0]}" if len(marks) == 1 else f"(.mark{marks[1]} - .mark{marks[0]})"
+                yield ("  PUSH " if pushed else "  RAW ") + name + (f":{size}" if size else "")
+
+    def write_asm(self):
+        self.test_whole()
+        text = "".join(line + "\n" for line in self.lines()).encode()
+        if len(text) > len(self.text):
+            raise Refused(14)
+        self.text[: len(text)] = text
+        return f"listing {len(text)}"
+
     # -- the steps: a line, or None for a bad step
 
-    def building(self, call, *args):
+    def answer(self, call, *args):
         try:
-            call(*args)
+            return call(*args)
         except Refused as r:
-            return f"refused {r.number} at {r.section} passes 0"
-        return f"stored {self.b} {self.s}"
+            return f"refused {r.number} at {r.section} passes {r.passes}"
+
+    def building(self, call, *args):
+        return self.answer(call, *args) or f"stored {self.b} {self.s}"
 
     def step(self, kind, a, b):
         part = self.pool[a:b] if a <= b <= len(self.pool) else None
@@ -176,17 +348,34 @@ class Model:
         if kind == 18:
             self.b, self.s = a, b
             return "set"
+        if kind == 19:
+            if a >= len(self.table):
+                return None
+            self.table[a] = b
+            return "set"
+        if kind == 20:
+            return self.answer(self.assemble, a)
+        if kind == 21:
+            return self.answer(self.write_asm)
+        if kind == 22:
+            return ("yes" if a < b and self.result[a] == 0x5B else "no") if b <= len(self.result) else None
         if kind == 24:
             return "bytes " + self.bytes[a:b].hex() if a <= b <= len(self.bytes) else None
         if kind == 25:
             return "words " + "".join("%08x" % w for w in self.words[a:b]) if a <= b <= len(self.words) else None
+        if kind == 26:
+            return "table " + "".join("%08x" % w for w in self.table[a:b]) if a <= b <= len(self.table) else None
+        if kind == 27:
+            return "result " + self.result[a:b].hex() if a <= b <= len(self.result) else None
+        if kind == 28:
+            return self.text[a:b].decode("latin1") if a <= b <= len(self.text) else None
         if kind >= 32 and kind - 32 in FORMS:
             return self.building(self.push_delta, a, b, kind - 32)
         return None
 
 
 def replay(script):
-    """What replay prints for a script."""
+    """What replay prints for a script, a character for each byte."""
     number = lambda at: int.from_bytes(script[at : at + 4], "big")
     if not 24 <= len(script) <= MAX_SCRIPT:
         return "bad script\n"
@@ -198,9 +387,9 @@ def replay(script):
     lines = []
     for at in range(24 + count, len(script), 9):
         line = model.step(script[at], number(at + 1), number(at + 5))
-        lines.append(("bad step" if line is None else line) + "\n")
+        lines.append("bad step\n" if line is None else line if script[at] == 28 else line + "\n")
     return "".join(lines)
 
 
 if __name__ == "__main__":
-    sys.stdout.write(replay(sys.stdin.buffer.read()))
+    sys.stdout.buffer.write(replay(sys.stdin.buffer.read()).encode("latin1"))

@@ -1,17 +1,20 @@
 #!/usr/bin/env python3
 """Writes the sample script of `replay` and what it must print, by the model: sample.py [FOLDER] (../../crates/replay).
-One header serves the whole script; cases are parted by kind 0. Kinds of later issues (19 to 22, 26 to 28) aren't touched."""
+One header serves the whole script; cases are parted by kind 0, and a full slice is met near its end."""
 import os, struct, sys
-import model
+import gen, model
 
-BYTES, WORDS, TABLE, RESULT, LISTING = 80, 36, 16, 128, 512  # 12 sections
+BYTES, WORDS, TABLE, RESULT, LISTING = 65536, 9300, 1100, 70000, 4096  # room for line 11
 SECTIONS = WORDS // 3
+NEAR_BYTES, NEAR_SECTIONS = 80, 12  # what is printed of the slices, and what is left where one is nearly full
+NEAR_WORDS = 3 * NEAR_SECTIONS
 TOP = 2**32 - 1
 MARK = 1048575
 FORMS = (0, 1, 2, 3, 4, 8, 9, 10, 11, 12)
 
 pool = bytearray()
 steps = []
+live = model.Model((BYTES, WORDS, TABLE, RESULT, LISTING), pool)
 
 
 def keep(what):
@@ -24,7 +27,9 @@ def keep(what):
 
 
 def step(kind, a=0, b=0):
+    """One step, taken by a model too, for what the next steps need to know of the store."""
     steps.append(struct.pack(">BII", kind, a, b))
+    return live.step(kind, a, b)
 
 
 new = lambda: step(0)
@@ -46,8 +51,33 @@ delta = lambda start, end, form: step(32 + form, start, end)
 
 
 def show():
-    step(24, 0, BYTES)
-    step(25, 0, WORDS)
+    step(24, 0, NEAR_BYTES)
+    step(25, 0, NEAR_WORDS)
+
+
+def show_ends():
+    step(24, BYTES - NEAR_BYTES, BYTES)
+    step(25, WORDS - NEAR_WORDS, WORDS)
+
+
+def nearly_full(bytes_left, sections_left):
+    """A mark as the last section, and this much left. Only the last section is good, and a building call reads no other."""
+    new()
+    record(SECTIONS - sections_left - 1, 0, 7, 0)
+    counts(BYTES - bytes_left, SECTIONS - sections_left)
+
+
+def run_of(kind, what):
+    """A section of Ops (1) or Data (2) of its own, also after one of its kind."""
+    data(what)
+    set_word(3 * live.s - 3, kind)
+
+
+def listed(more=0):
+    """The listing, and these many bytes of the buffer after it."""
+    line = step(21)
+    if line.startswith("listing "):
+        step(28, 0, int(line.split()[1]) + more)
 
 
 def record(i, *words):
@@ -68,6 +98,26 @@ def every_call():
     u64(2**32)
     u32(256)
     delta(1, 2, 8)
+
+
+def zeros(n):
+    """Data of so many bytes 0."""
+    while n > 2048:
+        data(bytes(2048))
+        n -= 2048
+    data(bytes(n))
+
+
+def coded(position=0):
+    """The code at a position: the first entries of the table, and the result's bytes around the code's start and end."""
+    line = step(20, position, TOP)
+    step(26, 0, 4)
+    if line.startswith("length "):
+        end = position + int(line.split()[1])
+        step(27, max(0, position - 1), min(end, position + 60))
+        step(27, max(position, end - 12), min(RESULT, end + 1))
+    else:
+        step(27, 0, 4)
 
 
 # nothing done yet; clear of an empty store; prints of nothing
@@ -180,8 +230,8 @@ mark(MARK)
 show()
 
 # number 4: the byte slice exactly full, one byte short, and a call's bytes judged whole
-new()
-data(bytes(range(100, 100 + BYTES - 3)))
+nearly_full(NEAR_BYTES, NEAR_SECTIONS)
+data(bytes(range(100, 100 + NEAR_BYTES - 3)))
 data(b"\x01\x02\x03\x04")
 u32(2**24)
 exchange(3, 4)
@@ -198,16 +248,16 @@ data(b"")
 mark(1)
 data(b"")
 direct(1, 9)
-show()
-new()
-data(bytes(range(100, 100 + BYTES)))
+show_ends()
+nearly_full(NEAR_BYTES, NEAR_SECTIONS)
+data(bytes(range(100, 100 + NEAR_BYTES)))
 data(b"")
 op(1)
-new()
-data(bytes(range(100, 101 + BYTES)))
-show()
-new()
-data(bytes(range(100, 100 + BYTES - 2)))
+nearly_full(NEAR_BYTES, NEAR_SECTIONS)
+data(bytes(range(100, 101 + NEAR_BYTES)))
+show_ends()
+nearly_full(NEAR_BYTES, NEAR_SECTIONS)
+data(bytes(range(100, 100 + NEAR_BYTES - 2)))
 exchange(1, 2)
 u32(256)
 exchange(0, 1)
@@ -215,8 +265,8 @@ exchange(2, 0)
 op(2)
 
 # number 5: the word slice full; a joining call needs no section
-new()
-for i in range(SECTIONS - 1):
+nearly_full(BYTES, NEAR_SECTIONS)
+for i in range(NEAR_SECTIONS - 1):
     mark(i)
 op(0x5B)
 for call in (lambda: mark(0), lambda: direct(0, 0), lambda: delta(0, 0, 0), lambda: data(b""), lambda: data(b"\x01")):
@@ -224,26 +274,26 @@ for call in (lambda: mark(0), lambda: direct(0, 0), lambda: delta(0, 0, 0), lamb
 op(0x5C)
 swap(16)
 u64(300)
-show()
-new()
-for i in range(SECTIONS - 1):
+show_ends()
+nearly_full(BYTES, NEAR_SECTIONS)
+for i in range(NEAR_SECTIONS - 1):
     direct(i, 0)
 data(b"\x01")
 op(0)
 u256(0)
 data(b"\x02")
 data(b"")
-show()
-new()
-for i in range(SECTIONS):
+show_ends()
+nearly_full(BYTES, NEAR_SECTIONS)
+for i in range(NEAR_SECTIONS):
     delta(i, i, 8)
 every_call()
-show()
+show_ends()
 # 4 before 5
-new()
-for i in range(SECTIONS - 1):
+nearly_full(NEAR_BYTES, NEAR_SECTIONS)
+for i in range(NEAR_SECTIONS - 1):
     mark(i)
-data(bytes(range(100, 100 + BYTES)))
+data(bytes(range(100, 100 + NEAR_BYTES)))
 op(0)
 exchange(1, 2)
 mark(0)
@@ -296,10 +346,10 @@ clear()
 mark(7)
 
 # 6 before 4 and 5, after 1, 2 and 3
-new()
-for i in range(SECTIONS - 1):
+nearly_full(NEAR_BYTES, NEAR_SECTIONS)
+for i in range(NEAR_SECTIONS - 1):
     mark(i)
-data(bytes(range(100, 100 + BYTES)))
+data(bytes(range(100, 100 + NEAR_BYTES)))
 set_word(3 * SECTIONS - 1, BYTES - 1)
 op(0)
 mark(0)
@@ -346,6 +396,316 @@ set_word(WORDS - 1, 1)
 set_word(WORDS, 1)
 set_word(TOP, 1)
 show()
+show_ends()
+
+# a listing of nothing; nothing and one byte of its buffer printed
+new()
+step(21, TOP, TOP)
+step(28, 0, 0)
+step(28, LISTING, LISTING)
+step(28, 0, 1)
+op(0x5B)
+listed()
+clear()
+step(21)
+step(28, 0, 12)
+
+# line 12
+new()
+mark(0)
+op(0x5B)
+direct(1, 8)
+op(0x56)
+mark(1)
+op(0x5B)
+data(b"\xaa\xbb")
+delta(0, 1, 2)
+listed(1)
+
+# every form of a reference; marks unplaced, placed apart, and of every length
+new()
+for form in FORMS:
+    direct(form, form)
+for form in FORMS:
+    delta(form, 10 * form, form)
+for m in (0, 9, 10, 99, 100, 12345, 99999, 100000, 999999, 1000000, MARK):
+    mark(m)
+    direct(MARK - m, 8)
+for n in (0, 1, 2, 33):
+    mark(0)
+    data(bytes(range(0xEE - n, 0xEE)))
+listed(1)
+
+# all 256 op bytes: those that aren't PUSH1 to PUSH32, then each of these with its immediate
+new()
+run_of(1, bytes(b for b in range(256) if not 0x60 <= b <= 0x7F))
+listed(1)
+new()
+run_of(1, b"".join(bytes([0x5F + n]) + bytes(range(0x5B, 0x5B + n)) for n in range(1, 33)))
+listed(1)
+
+# cut immediates: PUSH32 at every place, and each push one byte short and with none left
+for first in (0, 16):
+    new()
+    for n in range(first, first + 16):
+        run_of(1, b"\x5b\x7f" + bytes(range(0x60, 0x60 + n)))
+    listed(1)
+new()
+for n in range(1, 33):
+    run_of(1, bytes([0x5F + n]) + bytes(n - 1))
+listed(1)
+new()
+for n in range(1, 33):
+    run_of(1, bytes([0x5F + n]))
+listed(1)
+
+# adjacent and empty sections: an immediate ends with its own section; the push in it is none
+new()
+for what in (b"\x61\x61", b"", b"\x62\x60\x61\x62\x60", b"\x00", b"", b""):
+    run_of(1, what)
+for what in (b"", b"", b"\x60", b"\x61", b""):
+    run_of(2, what)
+run_of(1, b"\x5b")
+run_of(2, b"\x5b")
+run_of(1, b"")
+mark(1)
+run_of(1, b"")
+listed(1)
+
+# number 14: the listing exactly full, one byte more and one less; refused, its buffer is as it was
+for last in (99, 100, 9):
+    new()
+    data(bytes(i % 256 for i in range(2019)))
+    for m in (1, 10, 10):
+        mark(m)
+    mark(last)
+    step(21)
+    step(28, 0, 20)
+    step(28, LISTING - 20, LISTING)
+
+# number 6 in a listing: each rule at the first, a middle and the last section; refused, the buffer is as it was
+new()
+for b, first in (
+    (BYTES + 1, ()), (16777217, ()), (TOP, ()),
+    (4, ((14, 0, 0),)), (4, ((TOP, 0, 0),)), (4, ((0, MARK + 1, 0),)), (4, ((0, 0, 1),)), (4, ((3, MARK + 1, 0),)), (4, ((3, 0, 5),)),
+    (4, ((4, MARK + 1, 0),)), (4, ((13, 0, MARK + 1),)), (4, ((1, 1, 0),)), (4, ((1, 1, 1),)), (4, ((2, 0, TOP),)), (4, ((1, TOP, TOP),)),
+    (4, ((1, 0, 4), (2, 3, 4))), (4, ((1, 0, 4), (2, 5, 4))), (4, ((1, 0, 3), (2, 4, 4))), (4, ((1, 0, 2), (2, 2, 4))), (4, ((1, 0, 4), (2, 4, 4))),
+):
+    for before in (0, 2):
+        for after in (0, 1):
+            # the last Ops or Data section ends at b, unless the case has one
+            spans = [r for r in first if r[0] in (1, 2)]
+            rows = [(0, 1, 0)] * before + list(first) + ([] if spans else [(1, 0, b)]) + [(3, 2, 8)] * after
+            for i, row in enumerate(rows):
+                record(i, *row)
+            counts(b, len(rows))
+            step(21)
+step(28, 0, 1)
+
+# and: no Ops or Data and bytes stored (whatever else is bad); the last end unlike the count, with a bad section after it or before
+# it; counts past the words; bad words past the count are never read
+new()
+record(0, 0, 1, 0)
+record(1, 14, 0, 0)
+for b, n in ((0, 1), (1, 1), (1, 0), (0, 0), (0, 2), (1, 2)):
+    counts(b, n)
+    step(21)
+for rows in (((1, 0, 1), (0, MARK + 1, 0)), ((0, MARK + 1, 0), (1, 0, 1)), ((1, 0, 1), (0, 1, 0)), ((1, 0, 2), (0, 1, 1)), ((1, 0, 1), (1, 1, 2))):
+    for i, row in enumerate(rows):
+        record(i, *row)
+    for b in (0, 1, 2, 3):
+        counts(b, 2)
+        step(21)
+for n in (SECTIONS, SECTIONS + 1, 1048576, 1048577, 1431655766, TOP):
+    counts(0, n)
+    step(21)
+# 6 before 14
+new()
+data(bytes(2040))
+set_word(1, 1)
+step(21)
+set_word(1, 0)
+step(21)
+
+# landing: at and past the end, in code of every length; b past the result is bad
+new()
+for a, b in ((0, 0), (0, 1), (1, 1), (0, RESULT), (RESULT - 1, RESULT), (RESULT, RESULT), (TOP, RESULT), (TOP, 0), (0, RESULT + 1), (0, TOP), (TOP, TOP)):
+    step(22, a, b)
+
+# layouts 1 to 10
+new()
+coded()
+for calls in (
+    lambda: (mark(0), direct(0, 8)),
+    lambda: (mark(0), direct(0, 0)),
+    lambda: (mark(0), direct(0, 9)),
+    lambda: (direct(0, 8), mark(0), op(0x5B)),
+    lambda: (direct(0, 8), zeros(253), mark(0)),
+    lambda: (direct(0, 8), zeros(254), mark(0)),
+    lambda: (direct(0, 9), zeros(254), mark(0)),
+    lambda: (mark(0), data(b"\xaa\xbb"), mark(1), delta(0, 1, 8)),
+    lambda: (mark(0), data(b"\xaa\xbb"), mark(1), delta(1, 0, 8)),
+    lambda: (mark(0), mark(0)),
+    lambda: (mark(0), op(0x5B), mark(0)),
+):
+    new()
+    calls()
+    coded()
+
+# line 11, both cases; values of three bytes
+for n, p in ((1022, 61449), (1023, 61445)):
+    new()
+    for m in range(n, 0, -1):
+        direct(m, 8)
+    zeros(p)
+    for m in range(n, 0, -1):
+        mark(m)
+        if m > 1:
+            zeros(1)
+    coded()
+    step(26, TABLE - 80, TABLE)
+
+# line 12's code, with a position; landing at each offset of it, at its end and past it
+new()
+mark(0)
+op(0x5B)
+direct(1, 8)
+op(0x56)
+mark(1)
+op(0x5B)
+data(b"\xaa\xbb")
+delta(0, 1, 2)
+for position in (0, 3, 20):
+    coded(position)
+for a in range(12):
+    step(22, a, 9)
+for a, b in ((0, 0), (0, 1), (4, 4), (4, 5), (8, RESULT), (7, RESULT), (TOP, RESULT), (0, RESULT + 1)):
+    step(22, a, b)
+
+# every form at a value of two bytes that differ, at 0 and at one byte; what a table held is gone
+for at in (0, 7, 258):
+    new()
+    for i in range(4):
+        step(19, i, 0x01020304)
+    mark(0)
+    zeros(at)
+    mark(2)
+    for form in FORMS:
+        if at < 256 or form % 8 != 1:
+            direct(2, form)
+            delta(0, 2, form)
+    coded()
+
+# number 6: the table all 0 over its whole length, the result as it was
+new()
+step(19, 0, 7)
+step(19, TABLE - 1, 7)
+counts(1, 0)
+coded()
+step(26, TABLE - 4, TABLE)
+for rows, b in (
+    (((0, 1, 0), (14, 0, 0)), 0), (((0, MARK + 1, 0),), 0), (((1, 0, 1), (0, MARK + 1, 0)), 2), (((1, 0, 1), (2, 2, 2)), 2), (((3, 0, 5),), 0),
+    (((4, 0, TABLE), (4, 0, MARK + 1)), 0), (((0, 1, 0),), 1), (((1, 0, 2), (2, 2, 3)), 3),
+):
+    new()
+    for i, row in enumerate(rows):
+        record(i, *row)
+    counts(b, len(rows))
+    coded()
+
+# number 7: a mark placed or named at the table's length, named or not; before 8
+for calls in (
+    lambda: (mark(0), mark(TABLE - 1), direct(TABLE - 1, 8)),
+    lambda: (mark(0), mark(TABLE)),
+    lambda: (mark(0), direct(TABLE, 8)),
+    lambda: (mark(0), delta(0, TABLE, 8)),
+    lambda: (mark(0), delta(TABLE, 0, 0)),
+    lambda: (direct(5, 8), mark(0), mark(MARK), mark(TABLE)),
+):
+    new()
+    calls()
+    coded()
+
+# number 8: a named mark that isn't placed, at either end; before 9; an unplaced mark that nobody names is none
+for calls in (
+    lambda: (mark(0), direct(0, 8), direct(1, 8), direct(2, 8)),
+    lambda: (mark(0), delta(0, 1, 8)),
+    lambda: (mark(0), delta(1, 0, 0)),
+    lambda: (mark(0), op(0), mark(0), direct(3, 1)),
+):
+    new()
+    calls()
+    coded()
+
+# number 9: bytes between a placing and an earlier one; empty sections and marks are none; before 10
+for calls in (
+    lambda: (mark(0), data(b""), mark(1), mark(0), run_of(1, b""), mark(0), direct(0, 8)),
+    lambda: (mark(0), data(b"\x00"), mark(0)),
+    lambda: (mark(0), direct(0, 8), mark(0)),
+    lambda: (mark(0), delta(0, 0, 0), mark(0)),
+    lambda: (mark(1), mark(0), mark(0), op(1), mark(2), mark(1), mark(0)),
+    lambda: (direct(0, 9), zeros(300), mark(0), op(0), mark(0)),
+):
+    new()
+    calls()
+    coded()
+
+# number 10: in the first pass and in the second; at each set size; while a delta's marks still move
+for calls in (
+    lambda: (direct(1, 9), direct(0, 8), zeros(252), mark(1), mark(0)),
+    lambda: (direct(1, 1), direct(0, 8), zeros(253), mark(1), mark(0)),
+    lambda: (op(0), direct(0, 2), zeros(65533), mark(0)),
+    lambda: (direct(0, 1), direct(1, 10), zeros(65531), mark(0), op(0), mark(1)),
+    lambda: (mark(0), zeros(256), mark(1), delta(0, 1, 1)),
+    lambda: (mark(0), zeros(255), mark(1), delta(0, 1, 9), delta(1, 0, 9)),
+):
+    new()
+    calls()
+    coded()
+
+# number 11: stores that never settle
+for steps_of in gen.RESTLESS:
+    new()
+    for kind, a, b in steps_of:
+        zeros(a) if kind == 3 else step(kind, a, b)
+    coded()
+
+# number 12: the first backward delta of the settled table, with its passes; before 13
+for position in (0, TOP):
+    for calls in (
+        lambda: (mark(0), op(0), mark(1), delta(0, 1, 8), delta(1, 0, 9), delta(1, 0, 0)),
+        lambda: (delta(1, 0, 8), direct(1, 8), mark(0), zeros(254), mark(1)),
+        lambda: (mark(0), mark(1), delta(1, 0, 8), delta(0, 1, 0)),
+    ):
+        new()
+        calls()
+        coded(position)
+
+# number 13: exactly full, one byte short, the position at the end and past it, with code and without
+new()
+mark(0)
+data(b"\x01\x02\x03")
+mark(1)
+direct(1, 8)
+for position in (RESULT - 5, RESULT - 4, RESULT - 1, RESULT, RESULT + 1, TOP, 0):
+    coded(position)
+step(27, RESULT - 6, RESULT)
+clear()
+for position in (RESULT, RESULT + 1, TOP):
+    coded(position)
+new()
+zeros(BYTES)
+coded(RESULT - BYTES)
+coded(RESULT - BYTES + 1)
+
+# setting entries: first, last, one past
+new()
+for a in (0, TABLE - 1, TABLE, TOP):
+    step(19, a, TOP)
+step(26, 0, 2)
+step(26, TABLE - 2, TABLE)
+step(27, 0, 0)
+step(26, TABLE, TABLE)
 
 # bad steps, and nothing changed by them
 new()
@@ -361,7 +721,7 @@ for v in (256, 257, TOP):
 for form in (5, 6, 7, 13, 14, 15, 16, 24, 256, TOP):
     direct(0, form)
 direct(MARK + 1, 5)
-for kind, n in ((24, BYTES), (25, WORDS)):
+for kind, n in ((24, BYTES), (25, WORDS), (26, TABLE), (27, RESULT), (28, LISTING)):
     for a, b in ((1, 0), (0, n + 1), (n + 1, n + 1), (n, n + 1), (TOP, TOP), (0, TOP), (TOP, 0)):
         step(kind, a, b)
 for kind in (3, 8):
@@ -398,5 +758,5 @@ if __name__ == "__main__":
     folder = sys.argv[1] if len(sys.argv) > 1 else os.path.join(os.path.dirname(os.path.abspath(__file__)), "../../crates/replay")
     whole = script()
     open(os.path.join(folder, "stdin"), "wb").write(whole)
-    open(os.path.join(folder, "stdout"), "w").write(model.replay(whole))
+    open(os.path.join(folder, "stdout"), "wb").write(model.replay(whole).encode("latin1"))
     print(f"{len(whole)} bytes, {len(steps)} steps, pool {len(pool)}")

@@ -1,6 +1,5 @@
 -- The law of each answer of assembly: 6 to 13 and written, each exactly in its stated condition. Assumes nothing.
-use Prim.Native.Nat.{ℕ, _+_, _≤_, _<_}
-use native.Mathlib.Omega.{arith}
+use Prim.Native.Nat.{ℕ}
 use mathlib.Core.Path.{_≡_, refl, sym, ap, _∙_, subst}
 use mathlib.Core.Bool.{Bool, true, false, cond}
 use mathlib.Core.Logic.{_↔_}
@@ -21,8 +20,8 @@ use Rattle.layout.proofs.Answers.{answer-law}
 use Rattle.settling.specs.Settle.{settleAnswer}
 use Rattle.assembler.specs.declared.Assembled.{Assembled}
 use Rattle.assembler.specs.declared.Assembled.the-variants.{Written, Refused}
-use Rattle.assembler.specs.Assemble.{Reply, written, refused, refusalReply, assembledReply, Outcome, isFull, assembly}
-use Rattle.assembler.specs.Answers.{RefusalSays, AnswerSays}
+use Rattle.assembler.specs.Assemble.{Reply, written, refused, assembledReply, Outcome, isFull, assembly}
+use Rattle.assembler.specs.Answers.{AnswerSays}
 use Rattle.assembler.proofs.Laid.{sound-settles}
 use Rattle.assembler.proofs.Outcomes.{outcome-refused, outcome-full, outcome-written, fits-law, full-law}
 

@@ -1,5 +1,5 @@
 -- Laws for `assemble`: one for each way that it goes, each giving the whole contract. Assumes nothing.
-use Prim.Native.Nat.{ℕ, _+_, _*_, _-_, _≤_, _<_}
+use Prim.Native.Nat.{ℕ, _+_, _≤_}
 use native.Mathlib.Omega.{arith}
 use mathlib.Core.Path.{_≡_, refl, sym, ap, _∙_, subst}
 use mathlib.Core.Bool.{true, false}
@@ -13,7 +13,6 @@ use Rattle.store.specs.Calls.{over}
 use Rattle.layout.specs.Passes.{entry}
 use Rattle.layout.specs.Answer.{Answer, laidOut, refused as noLayout}
 use Rattle.settling.specs.Settle.{settleAnswer, settledOf, tableAfter}
-use Rattle.settling.specs.declared.Settled.{Settled}
 use Rattle.settling.specs.declared.Settled.the-variants.{LaidOut, Refused}
 use Rattle.emission.specs.Emission.{codeOf}
 use Rattle.assembler.specs.Assemble.{Reply, written, refusalReply, Outcome, refusal, isFull, assembly}

@@ -8,7 +8,7 @@ use mathlib.Core.List.{List, [], _∷_}
 use lib.ListN.{length}
 use Rattle.units.specs.declared.AsmReference.{AsmReference}
 use Rattle.records.specs.Record.{readSection}
-use Rattle.records.specs.Store.{Store, maxBytes, maxSections, sectionWords}
+use Rattle.records.specs.Store.{Store, sectionWords}
 use Rattle.records.specs.Sections.{Section, mark, ops, bytes, reference, sectionRead, decodeAt, decode}
 use Rattle.records.specs.declared.record.AsmSection.the-variants.{MarkRef}
 use Rattle.records.specs.declared.record.SectionRead.the-variants.{Read}

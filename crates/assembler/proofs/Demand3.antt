@@ -1,9 +1,8 @@
 -- Demand 3 over a store and lent slices: what assembly, as defined, answers and leaves. Assumes nothing.
-use Prim.Native.Nat.{ℕ, _+_, _*_, _-_, _≤_, _<_}
+use Prim.Native.Nat.{ℕ, _+_, _≤_}
 use native.Mathlib.Omega.{arith}
 use mathlib.Core.Path.{_≡_, refl, sym, ap, _∙_, subst}
 use mathlib.Core.Bool.{false, true≢false}
-use mathlib.Core.Logic.{_↔_}
 use mathlib.Core.List.{List, _++_}
 use lib.ListN.{length, replicate}
 use lib.Seq.{slice, slice-empty}
@@ -19,20 +18,19 @@ use Rattle.store_view.proofs.Over.{slice-over}
 use Rattle.store_view.proofs.Soundness.{undamaged-iff}
 use Rattle.layout.specs.Layout.{Layout, inAll, GivesEnough}
 use Rattle.layout.specs.Passes.{entry, Settling, settled, narrowAt, unsettled, settle}
-use Rattle.layout.specs.Conditions.{sectionAt, Never, refers, backwardBy, backwardAt, isDelta, deltaAt, storedBytes, references, passBound, Premise}
-use Rattle.layout.specs.Answer.{Answer, laidOut, answer}
+use Rattle.layout.specs.Conditions.{sectionAt, Never, refers, backwardBy, backwardAt, isDelta, deltaAt, Premise}
+use Rattle.layout.specs.Answer.{laidOut}
 use Rattle.layout.specs.Answer as layout
 use Rattle.layout.specs.Shortest as list
-use Rattle.layout.specs.Shortest.{SomeLayout}
 use Rattle.layout.proofs.Answers.{settle-law, answer-law}
 use Rattle.layout.proofs.Demand3.{demand-3}
 use Rattle.settling.specs.Settle.{settleAnswer}
 use Rattle.settling.proofs.Sections.{stored-is}
 use Rattle.emission.specs.Emission.{codeOf, writtenLayout}
-use Rattle.emission.proofs.Lengths.{length-code, written-settled}
+use Rattle.emission.proofs.Lengths.{written-settled}
 use Rattle.emission.proofs.Places.{still-sum, sizes-five}
-use Rattle.assembler.specs.Assemble.{Reply, written, refused, Outcome, assembly}
-use Rattle.assembler.specs.Demand3.{Given, Written, IsWritten, IsTooNarrow, Shortest, Demand3}
+use Rattle.assembler.specs.Assemble.{written, refused, Outcome, assembly}
+use Rattle.assembler.specs.Demand3.{Given, Written, Shortest, Demand3}
 use Rattle.assembler.proofs.Decoded.{stored-small}
 use Rattle.assembler.proofs.Laid.{sound-settles, laid}
 use Rattle.assembler.proofs.Outcomes.{outcome-refused, outcome-written, fits-law}
@@ -42,12 +40,14 @@ direct-forward : (table : List ℕ) (r : MarkReference) → isDelta r ≡ false 
 direct-forward table (Direct m) h = refl
 direct-forward table (Delta d) h = absurd (true≢false h)
 
+-- so of a section
 section-forward : (table : List ℕ) (s : Section) → refers isDelta s ≡ false → refers (backwardBy table) s ≡ false
 section-forward table (mark m) h = refl
 section-forward table (ops bs) h = refl
 section-forward table (bytes bs) h = refl
 section-forward table (reference r) h = direct-forward table (r .«mark_ref») h
 
+-- so of a list
 never-backward : (table : List ℕ) (ss : List Section) → Never ss (deltaAt ss) → Never ss (backwardAt table ss)
 unfolding deltaAt backwardAt
 never-backward table ss h i l = section-forward table (sectionAt ss i) (h i l)
@@ -114,6 +114,7 @@ module _ (w : ℕ) (st : Store) (n : ℕ) (result : List ℕ) (position : ℕ) (
   abbrev refuses : ℕ → ℕ → Outcome
   refuses i k = record { reply = refused tooNarrow i k; table = replicate n 0; result = result }
 
+  -- it is refused
   refuses-it : (i k : ℕ) → settle n ss ≡ narrowAt i k → assembly w st n result position ≡ refuses i k
   refuses-it i k e = outcome-refused w st n result position (TooNarrow i k) (narrow i k e)
 
@@ -139,6 +140,7 @@ module _ (w : ℕ) (st : Store) (n : ℕ) (result : List ℕ) (position : ℕ) (
         bound = shortest .settledPasses table size k e;
       }
 
+  -- demand 3 where it is settled
   met-settled : (table : List ℕ) (size k : ℕ) → settle n ss ≡ settled table size k → Met (writes table size k)
   met-settled table size k e =
       record {
@@ -155,6 +157,7 @@ module _ (w : ℕ) (st : Store) (n : ℕ) (result : List ℕ) (position : ℕ) (
         ifNarrow = λ i′ k′ h. let z : _≡_ {A = ℕ} 0 1 = cc in absurd (omega arith);
       }
 
+  -- and where it is too narrow
   met-narrow : (i k : ℕ) → settle n ss ≡ narrowAt i k → Met (refuses i k)
   met-narrow i k e =
       record {

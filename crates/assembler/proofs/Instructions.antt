@@ -1,11 +1,10 @@
 -- The written code against the Yellow Paper, for every store: what the theorem over lists says of the result that is left. Assumes nothing.
-use Prim.Native.Nat.{ℕ, _+_, _*_, _≤_, _<_, _^_}
+use Prim.Native.Nat.{ℕ, _<_, _^_}
 use native.Mathlib.Omega.{arith}
-use mathlib.Core.Path.{_≡_, refl, sym, ap, _∙_, subst}
+use mathlib.Core.Path.{_≡_, refl, sym, subst}
 use mathlib.Core.Bool.{Bool, true, false}
 use mathlib.Core.List.{List}
 use lib.ListN.{length}
-use Rattle.units.specs.declared.reply.Refusal.the-variants.{ResultFull}
 use Rattle.records.specs.Store.{Store}
 use Rattle.records.specs.Sections.{decode}
 use Rattle.store.specs.Calls.{over}
@@ -16,7 +15,7 @@ use Rattle.emission.specs.Emission.{codeOf}
 use Rattle.emission.specs.Pushes.{ReferencesHere}
 use Rattle.emission.proofs.Places.{still-sum, sizes-five}
 use Rattle.emission.proofs.Pushes.{references-here}
-use Rattle.assembler.specs.Assemble.{written, Outcome, refusal, isFull, assembly}
+use Rattle.assembler.specs.Assemble.{Outcome, isFull, assembly}
 use Rattle.assembler.specs.Instructions.{CodePushes}
 use Rattle.assembler.proofs.Decoded.{stored-small}
 use Rattle.assembler.proofs.Laid.{laid}

@@ -1,12 +1,12 @@
 -- What is known where the settling of a store laid its sections out: the store is undamaged, the table has an entry for every mark, the
 -- last pass stood still, and the code can be written. Assumes nothing.
-use Prim.Native.Nat.{ℕ, _+_, _*_, _-_, _≤_, _<_}
+use Prim.Native.Nat.{ℕ, _≤_, _<_}
 use native.Mathlib.Omega.{arith}
 use native.Mathlib.Nat.{zero-add}
-use mathlib.Core.Path.{_≡_, refl, sym, ap, _∙_, subst}
-use mathlib.Core.Bool.{Bool, true, false, true≢false}
+use mathlib.Core.Path.{_≡_, refl, sym, ap, _∙_}
+use mathlib.Core.Bool.{true, false, true≢false}
 use mathlib.Core.List.{List}
-use lib.Dec.{leb, ltb}
+use lib.Dec.{leb}
 use lib.ListN.{length}
 use borrow.Author.Tests.{leb-false, ltb-false}
 use Rattle.units.specs.declared.MarkReference.{MarkReference}
@@ -22,8 +22,8 @@ use Rattle.records.specs.declared.record.AsmSection.the-variants.{MarkRef}
 use Rattle.records.specs.declared.record.SectionRead.{SectionRead}
 use Rattle.records.specs.declared.record.SectionRead.the-variants.{Read}
 use Rattle.layout.specs.Passes.{entry, settled, settle}
-use Rattle.layout.specs.Conditions.{sectionAt, Never, placesSome, someMark, refers, namesSome, shortAt, backwardBy, backwardAt}
-use Rattle.layout.specs.Answer.{Answer, laidOut, refused, answer, Says}
+use Rattle.layout.specs.Conditions.{sectionAt, placesSome, someMark, namesSome, shortAt, backwardBy, backwardAt}
+use Rattle.layout.specs.Answer.{laidOut, answer, Says}
 use Rattle.layout.proofs.Answers.{settle-law, answer-law}
 use Rattle.layout.proofs.Moves.{Still, or-false}
 use Rattle.layout.proofs.Rule.{Sizes}

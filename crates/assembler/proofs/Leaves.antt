@@ -1,10 +1,10 @@
 -- What assembly, as defined, leaves in the lent table and result. Assumes nothing.
 use Prim.Native.Nat.{ℕ, _+_, _≤_}
 use native.Mathlib.Omega.{arith}
-use mathlib.Core.Path.{_≡_, refl, sym, ap, _∙_, subst}
+use mathlib.Core.Path.{_≡_, refl, sym, subst}
 use mathlib.Core.Bool.{Bool, true, false}
 use mathlib.Core.List.{List}
-use lib.ListN.{length, drop, replicate}
+use lib.ListN.{length, drop}
 use Rattle.units.specs.declared.reply.Refusal.{Refusal}
 use Rattle.units.specs.declared.reply.Refusal.the-variants.{ResultFull}
 use Rattle.records.specs.Store.{Store}
@@ -16,7 +16,7 @@ use Rattle.layout.specs.Answer.{Answer, laidOut, refused as noLayout}
 use Rattle.settling.specs.Settle.{settleAnswer}
 use Rattle.emission.specs.Emission.{codeOf}
 use Rattle.emission.proofs.Places.{settled-absent}
-use Rattle.assembler.specs.Assemble.{Reply, written, refused, Outcome, refusal, isFull, assembly}
+use Rattle.assembler.specs.Assemble.{written, refused, Outcome, refusal, isFull, assembly}
 use Rattle.assembler.specs.Leaves.{LeftRefused, LeftWritten}
 use Rattle.assembler.proofs.Laid.{laid}
 use Rattle.assembler.proofs.Outcomes.{outcome-refused, outcome-full, outcome-written, fits-law}

@@ -7,3 +7,4 @@ pub mod Instructions
 pub mod Answers
 pub mod Assembles
 pub mod Leaves
+pub mod Hand

@@ -1,10 +1,10 @@
 -- Laws for the code that writes: one for each way that it goes, on plain variables. Assumes nothing.
-use Prim.Native.Nat.{ℕ, zero, suc, _+_, _-_, _≤_, _<_}
+use Prim.Native.Nat.{ℕ, suc, _+_, _-_, _≤_, _<_}
 use native.Mathlib.Omega.{arith}
 use native.Mathlib.Numerals.{add-one}
 use native.Mathlib.Nat.{add-zero, sub-zero}
 use mathlib.Core.Path.{_≡_, refl, sym, _∙_, ap, subst}
-use mathlib.Core.Bool.{Bool, true, false, cond, false≢true}
+use mathlib.Core.Bool.{Bool, true, false, false≢true}
 use mathlib.Core.List.{List, [], _∷_, _++_}
 use lib.Dec.{ltb, eqb}
 use lib.ListN.{length, getD, set, length-append}
@@ -12,7 +12,7 @@ use lib.Seq.{slice, slice-cons}
 use borrow.Author.Tests.{lt-ltb, le-ltb}
 use Rattle.units.specs.Numbers.{heldBytes, bigEndian}
 use Rattle.units.specs.declared.SetSize.{SetSize}
-use Rattle.units.specs.declared.SetSize.the-variants.{Unsized, Sized}
+use Rattle.units.specs.declared.SetSize.the-variants.{Unsized}
 use Rattle.units.specs.declared.MarkId.{MarkId}
 use Rattle.units.specs.declared.MarkSpan.{MarkSpan}
 use Rattle.units.specs.declared.MarkReference.{MarkReference}
@@ -21,12 +21,12 @@ use Rattle.units.specs.declared.AsmReference.{AsmReference}
 use Rattle.units.proofs.BigEndian.{length-bigEndian}
 use Rattle.records.specs.Record.{readSection}
 use Rattle.records.specs.Store.{Store, sectionWords}
-use Rattle.records.specs.Sections.{Section, sectionOf, sectionRead, decodeAt, decodeFrom, decode}
+use Rattle.records.specs.Sections.{sectionOf, decodeAt, decodeFrom, decode}
 use Rattle.records.specs.declared.record.AsmSection.{AsmSection}
 use Rattle.records.specs.declared.record.AsmSection.the-variants.{Mark}
 use Rattle.records.specs.declared.record.SectionRead.{SectionRead}
 use Rattle.records.specs.declared.record.SectionRead.the-variants.{Read, Damaged}
-use Rattle.store.specs.Calls.{over, pushOp}
+use Rattle.store.specs.Calls.{over}
 use Rattle.store_view.proofs.Over.{length-over}
 use Rattle.layout.specs.Passes.{entry, valueBy}
 use Rattle.emission.specs.Emission.{byteCount, isPushZero, opcode, referenceBytes, sectionBytes, inARow, codeOf}
@@ -99,6 +99,7 @@ module _ (r : AsmReference) (v x : ℕ) (same : x ≡ v) where
 
   -- else the opcode and the value
   module _ (n : ℕ) (e : isPushZero (r .«set_size») (r .pushed) x ≡ false) (count : n ≡ byteCount (r .«set_size») x) where
+    -- in a row
     pub reference-parts : referenceBytes r v ≡ opcode (r .pushed) n ++ bigEndian n x
     unfolding referenceBytes
     reference-parts = rw (← same, e, count)
@@ -148,6 +149,7 @@ module _ (bytes table old : List ℕ) (i : ℕ) where
   pub asks-case : (x y : AsmSection) → x ≡ y → Asks x → Asks y
   asks-case x y e h = subst Asks e h
 
+  -- and so what it does
   pub does-case : (x y : AsmSection) (next : ℕ) (new : List ℕ) → x ≡ y → Does y next new → Does x next new
   does-case x y next new e h = subst (λ (z : AsmSection). Does z next new) (sym e) h
 

@@ -5,11 +5,10 @@ use mathlib.Core.Path.{_≡_}
 use mathlib.Core.Bool.{true, false}
 use mathlib.Core.Logic.{_⊎_}
 use mathlib.Core.List.{List}
-use lib.ListN.{length}
 use Rattle.units.specs.declared.reply.Refusal.{Refusal}
 use Rattle.units.specs.declared.reply.Refusal.the-variants as reply
 use Rattle.records.specs.Store.{Store}
-use Rattle.records.specs.Sections.{Section, decode}
+use Rattle.records.specs.Sections.{decode}
 use Rattle.records.specs.Damage.{badCount}
 use Rattle.store_view.specs.View.{Undamaged, FirstBreak}
 use Rattle.layout.specs.Answer.{laidOut, refused, Says}

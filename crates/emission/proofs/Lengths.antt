@@ -1,7 +1,7 @@
 -- The bytes of a section are as many as its size by the same offsets, so the written layout is the settled one. Assumes nothing.
 use Prim.Native.Nat.{ℕ, _+_}
 use native.Mathlib.Omega.{arith}
-use mathlib.Core.Path.{_≡_, refl, sym, _∙_, ap, ap₂}
+use mathlib.Core.Path.{_≡_, refl, _∙_, ap, ap₂}
 use mathlib.Core.Bool.{Bool, true, false, cond}
 use mathlib.Core.List.{List, [], _∷_, _++_, map}
 use lib.Dec.{eqb}
@@ -13,7 +13,7 @@ use Rattle.units.specs.declared.SetSize.the-variants.{Unsized, Sized}
 use Rattle.units.specs.declared.AsmReference.{AsmReference}
 use Rattle.units.proofs.BigEndian.{length-bigEndian}
 use Rattle.records.specs.Sections.{Section, mark, ops, bytes, reference}
-use Rattle.layout.specs.Layout.{Layout, total, inAll}
+use Rattle.layout.specs.Layout.{total}
 use Rattle.layout.specs.Passes.{entry, valueBy, sizeBy}
 use Rattle.layout.specs.Shortest.{settledLayout}
 use Rattle.emission.specs.Emission.{byteCount, isPushZero, opcode, referenceBytes, sectionBytes, parts, inARow, codeOf, writtenLayout}

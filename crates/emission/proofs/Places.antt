@@ -1,6 +1,6 @@
 -- The places of marks in a settled table: each placing of a mark stands at the sum of the sizes before it, no reference is too narrow,
 -- and the length answered is the code's. For every list that is settled, deltas too. Assumes nothing.
-use Prim.Native.Nat.{ℕ, zero, suc, _+_, _*_, _≤_, _<_, suc-le-suc}
+use Prim.Native.Nat.{ℕ, zero, suc, _+_, _*_, _≤_, _<_}
 use native.Mathlib.Omega.{arith}
 use native.Mathlib.Nat.{add-zero}
 use mathlib.Core.Path.{_≡_, refl, sym, _∙_, ap, subst}
@@ -29,10 +29,11 @@ StillAt t (ops bs) at = Unit
 StillAt t (bytes bs) at = Unit
 StillAt t (reference r) at = tooNarrow r (valueBy t (r .«mark_ref»)) ≡ false
 
--- one section on
+-- what holds of a section, and that the others stood still
 abbrev Goes : (ℕ → ℕ) → Section → List Section → ℕ → ℕ → Type 0
 Goes t x ss s e = StillAt t x s × Still (Sizes today) ss (s + sizeBy t x) t e
 
+-- a pass that stood still goes one section on
 still-cons : (t : ℕ → ℕ) (x : Section) (ss : List Section) (s e : ℕ) → Still (Sizes today) (x ∷ ss) s t e → Goes t x ss s e
 still-cons t (mark m) ss s e h = (h .0, rw (add-zero s) (h .1))
 still-cons t (ops bs) ss s e h = (tt, h)

@@ -1,20 +1,19 @@
 -- Each pushed reference of a code is one push instruction that pushes its value, wherever the code stands in a result; and each
 -- reference's value is where its marks are. For every settled table. Assumes nothing.
-use Prim.Native.Nat.{ℕ, zero, suc, _+_, _*_, _-_, _^_, _≤_, _<_}
+use Prim.Native.Nat.{ℕ, zero, suc, _+_, _^_, _≤_, _<_}
 use native.Mathlib.Omega.{arith}
-use native.Mathlib.Nat.{zero-add, add-sub-cancel}
+use native.Mathlib.Nat.{zero-add}
 use mathlib.Core.Path.{_≡_, refl, sym, _∙_, ap, ap₂, subst}
-use mathlib.Core.Bool.{Bool, true, false, cond, not, _||_, true≢false, false≢true}
-use mathlib.Core.Logic.{_⊎_, inl, inr, ⊎-elim}
+use mathlib.Core.Bool.{Bool, true, false, cond, not, false≢true}
+use mathlib.Core.Logic.{inl, inr}
 use mathlib.Core.List.{List, [], _∷_, _++_, map, append-assoc}
 use mathlib.Core.Option.{some}
-use lib.Dec.{eqb, ltb}
+use lib.Dec.{eqb}
 use lib.ListN.{length, getD, take, drop, length-append}
 use lib.Seq.{length-take-le, getD-append-seam}
 use borrow.Author.Tests.{eqb-true, eqb-false, ltb-false, not-false}
 use Rattle.units.specs.Numbers.{heldBytes, number, bigEndian}
-use Rattle.units.specs.Reference.{refSizeBytes, opBytes, width, size, tooNarrow}
-use Rattle.units.specs.declared.RefSize.{RefSize}
+use Rattle.units.specs.Reference.{refSizeBytes, width, size, tooNarrow}
 use Rattle.units.specs.declared.SetSize.{SetSize}
 use Rattle.units.specs.declared.SetSize.the-variants.{Unsized, Sized}
 use Rattle.units.specs.declared.MarkReference.{MarkReference}
@@ -23,21 +22,21 @@ use Rattle.units.specs.declared.AsmReference.{AsmReference}
 use Rattle.units.proofs.BigEndian.{number-nil, length-bigEndian, number-bigEndian}
 use Rattle.units.proofs.Held.{held-le}
 use Rattle.units.proofs.Widths.{refSize-le}
-use Rattle.evm.specs.YellowPaper.{maxStack, isPush, pushSize, instructionLength, codeByte, step}
+use Rattle.evm.specs.YellowPaper.{isPush, pushSize, instructionLength, codeByte}
 use Rattle.evm.proofs.Steps.{isPush-push, pushSize-push}
-use Rattle.records.specs.Sections.{Section, mark, ops, bytes, reference}
+use Rattle.records.specs.Sections.{Section, mark}
 use Rattle.store.specs.Calls.{over, pushOp}
 use Rattle.instructions.proofs.Runs.{push-anywhere}
 use Rattle.layout.specs.Layout.{total, HoldsIn}
 use Rattle.layout.specs.Passes.{entry, valueBy, sizeBy}
-use Rattle.layout.specs.Conditions.{sectionAt, Never, someMark, namesSome, refers, placed, unplacedAt, backwardBy, backwardAt}
+use Rattle.layout.specs.Conditions.{sectionAt, Never, someMark, placed, unplacedAt, backwardBy, backwardAt}
 use Rattle.layout.proofs.Layouts.{still-placed}
 use Rattle.layout.proofs.Moves.{Still, or-false}
 use Rattle.layout.proofs.Rule.{Sizes}
 use Rattle.layout.proofs.Today.{today, size-holds}
-use Rattle.emission.specs.Emission.{byteCount, isPushZero, opcode, referenceBytes, sectionBytes, parts, inARow, codeOf, writtenLayout}
+use Rattle.emission.specs.Emission.{byteCount, isPushZero, opcode, referenceBytes, sectionBytes, parts, inARow, codeOf}
 use Rattle.emission.specs.Pushes.{widthOf, placeOf, IsPlace, ValueHere, PushesAt, ReferencesHere}
-use Rattle.emission.proofs.Lengths.{length-reference, part-lengths}
+use Rattle.emission.proofs.Lengths.{part-lengths}
 use Rattle.emission.proofs.Rows.{row-split}
 use Rattle.emission.proofs.Places.{StillAt, still-at}
 

@@ -1,5 +1,5 @@
--- 'Layouts tried by hand': the first ten, on the lists of sections that their calls make; line 7, line 8 and a padded layout of line 6
--- through demand 3. Assumes nothing.
+-- Lists of sections that a wrong settling answers otherwise; and of 'Layouts tried by hand', line 7, line 8 and a padded layout of line 6
+-- through demand 3. (The ten lines from calls to code are the crate `hand`.) Assumes nothing.
 use Prim.Native.Nat.{ℕ, _+_, _-_, _*_, _^_, _≤_, _<_}
 use native.Mathlib.Omega.{arith}
 use native.Mathlib.Nat.{lt-of-lt-of-le}
@@ -48,36 +48,9 @@ pub record Tried : Type 0 where
 abbrev tried : ℕ → List Section → Answer → Tried
 tried n ss a = record { marks = n; sections = ss; expected = a }
 
--- the ten lines
+-- lists that a wrong settling answers otherwise
 abbrev pub lines : List Tried
 lines =
-    -- 1: empty, no code, 1 pass
-    tried 0 [] (laidOut [] 0 1)
-    -- 2: 5f
-    ∷ tried 1 (mark 0 ∷ direct true Unsized 0 ∷ []) (laidOut (0 ∷ []) 1 1)
-    -- 3: 00
-    ∷ tried 1 (mark 0 ∷ direct false Unsized 0 ∷ []) (laidOut (0 ∷ []) 1 1)
-    -- 4: 60 00
-    ∷ tried 1 (mark 0 ∷ direct true (Sized S1) 0 ∷ []) (laidOut (0 ∷ []) 2 1)
-    -- 5: 60 02 5b, 2 passes
-    ∷ tried 1 (direct true Unsized 0 ∷ mark 0 ∷ ops (0x5b ∷ []) ∷ []) (laidOut (2 ∷ []) 3 2)
-    -- 6: 60 ff and data, 2 passes
-    ∷ tried 1 (far Unsized 253) (laidOut (255 ∷ []) 255 2)
-    -- 7: 61 01 01 and data, mark at 257, 3 passes
-    ∷ tried 1 (far Unsized 254) (laidOut (257 ∷ []) 257 3)
-    -- 8: as 7, size 1: number 10, section 0, pass 1
-    ∷ tried 1 (far (Sized S1) 254) (refused (TooNarrow 0 1))
-    -- 9: aa bb 60 02; from 1 to 0: number 12, section 3
-    ∷ tried 2 (mark 0 ∷ bytes (0xaa ∷ 0xbb ∷ []) ∷ mark 1 ∷ delta 0 1 ∷ []) (laidOut (0 ∷ 2 ∷ []) 4 1)
-    ∷ tried 2 (mark 0 ∷ bytes (0xaa ∷ 0xbb ∷ []) ∷ mark 1 ∷ delta 1 0 ∷ []) (refused (Backward 3 1))
-    -- 10: twice running, accepted; with op 5b between: 9, section 2
-    ∷ tried 1 (mark 0 ∷ mark 0 ∷ []) (laidOut (0 ∷ []) 0 1)
-    ∷ tried 1 (mark 0 ∷ ops (0x5b ∷ []) ∷ mark 0 ∷ []) (refused (PlacedApart 2))
-    ∷ []
-
--- lists that a wrong settling answers otherwise
-abbrev pub more-lines : List Tried
-more-lines =
     -- sizes by the table as it is then: the raw reference of size 1 is found too narrow in pass 1
     tried 1 (direct true Unsized 0 ∷ bytes (replicate 254 0) ∷ mark 0 ∷ direct false (Sized S1) 0 ∷ []) (refused (TooNarrow 3 1))
     -- a delta that is backward in pass 1 only
@@ -95,9 +68,9 @@ abbrev pub AsExpected : List Tried → Type 0
 AsExpected ts = map (λ (t : Tried). answer (t .marks) (t .sections)) ts ≡ map (λ (t : Tried). t .expected) ts
 
 -- each line's answer is the one expected
-pub hand-layouts : AsExpected lines × AsExpected more-lines
+pub tried-lists : AsExpected lines
 unfolding answer settle passes pass walkFrom start startFrom firstShort shortAt firstUnplaced unplacedAt firstApart apartAt firstBackward backwardAt leastFrom placed someBytes leastSize size tooNarrow heldBytes
-hand-layouts = (refl, refl)
+tried-lists = refl
 
 -- ---- through demand 3
 

@@ -8,6 +8,9 @@ use Rattle.replay.specs.declared.script.HeaderRead.the-variants.{Good, B
 pub record Lendable (n : ℕ) (h : Header) : Type 0 where
   pub bytes : h .bytes ≤ 131072
   pub words : h .words ≤ 65536
+  pub table : h .table ≤ 16384
+  pub result : h .result ≤ 262144
+  pub listing : h .listing ≤ 1048576
   pub pool : 24 + h .pool ≤ n
 
 -- a good header is lendable

@@ -1,8 +1,10 @@
 // Reads a script of calls from standard input, makes them one after another on lent slices, and prints a line for each.
 // docs/REPLAY.md has the format. Every function is proved safe; no contract says what is printed.
+mod assembling;
 mod building;
 mod memory;
 mod printing;
+mod reading;
 mod script;
 
 ghost use lib.ListN.{length};
@@ -12,7 +14,10 @@ use script::HEADER_BYTES;
 use script::Header;
 use script::HeaderRead;
 use script::MAX_BYTES;
+use script::MAX_LISTING;
+use script::MAX_RESULT;
 use script::MAX_SCRIPT;
+use script::MAX_TABLE;
 use script::MAX_WORDS;
 use script::STEP_BYTES;
 use script::Step;
@@ -32,6 +37,21 @@ fn word_buffer() -> [u32; MAX_WORDS] {
     [0u32; MAX_WORDS]
 }
 
+// The longest offset table.
+fn table_buffer() -> [u32; MAX_TABLE] {
+    [0u32; MAX_TABLE]
+}
+
+// The longest result.
+fn result_buffer() -> [u8; MAX_RESULT] {
+    [0u8; MAX_RESULT]
+}
+
+// The longest listing buffer.
+fn text_buffer() -> [u8; MAX_LISTING] {
+    [0u8; MAX_LISTING]
+}
+
 // One step: the store after it. The slices change as its call says.
 fn take_step(
     store: Assembler,
@@ -39,26 +59,40 @@ fn take_step(
     pool: &[u8],
     bytes: &mut [u8],
     words: &mut [u32],
+    table: &mut [u32],
+    result: &mut [u8],
+    text: &mut [u8],
 ) -> Assembler {
     let kind = step.kind;
     match kind {
-        0 => memory::start_anew(bytes, words),
+        0 => memory::start_anew(bytes, words, table, result, text),
         1..=11 => building::build(store, step, pool, bytes, words),
-        16..=18 => memory::set(store, step, bytes, words),
-        24..=25 => memory::show(store, step, bytes, words),
+        16..=19 => memory::set(store, step, bytes, words, table),
+        20 => assembling::assemble(store, step.a, bytes, words, table, result),
+        21 => reading::list(store, bytes, words, text),
+        22 => reading::land(store, step.a, step.b, result),
+        24..=28 => memory::show(store, step, bytes, words, table, result, text),
         32..=44 => building::delta(store, step, bytes, words),
         _ => printing::bad_step(store),
     }
 }
 
 // All steps, one after another.
-fn run_steps(pool: &[u8], steps: &[u8], bytes: &mut [u8], words: &mut [u32]) {
-    let mut store = memory::filled(bytes, words);
+fn run_steps(
+    pool: &[u8],
+    steps: &[u8],
+    bytes: &mut [u8],
+    words: &mut [u32],
+    table: &mut [u32],
+    result: &mut [u8],
+    text: &mut [u8],
+) {
+    let mut store = memory::filled(bytes, words, table, result, text);
     let mut at = 0;
     while STEP_BYTES <= steps.len() - at {
         let step = script::step_at(steps, at);
-        store = take_step(store, step, pool, bytes, words);
         at += STEP_BYTES;
+        store = take_step(store, step, pool, bytes, words, table, result, text);
     }
 }
 
@@ -68,14 +102,23 @@ fn run_good(script: &[u8], header: Header)
 {
     let byte_count = header.bytes;
     let word_count = header.words;
+    let table_count = header.table;
+    let result_count = header.result;
+    let text_count = header.listing;
     let steps = HEADER_BYTES + header.pool;
     let mut bytes = byte_buffer();
     let mut words = word_buffer();
+    let mut table = table_buffer();
+    let mut result = result_buffer();
+    let mut text = text_buffer();
     run_steps(
         &script[HEADER_BYTES..steps],
         &script[steps..],
         &mut bytes[..byte_count],
         &mut words[..word_count],
+        &mut table[..table_count],
+        &mut result[..result_count],
+        &mut text[..text_count],
     );
 }
 

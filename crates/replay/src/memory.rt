@@ -28,16 +28,31 @@ fn fill_words(slice: &mut [u32]) {
 }
 
 // Every slice filled anew, and an empty store.
-pub(crate) fn filled(bytes: &mut [u8], words: &mut [u32]) -> Assembler {
+pub(crate) fn filled(
+    bytes: &mut [u8],
+    words: &mut [u32],
+    table: &mut [u32],
+    result: &mut [u8],
+    text: &mut [u8],
+) -> Assembler {
     fill_bytes(bytes);
     fill_words(words);
+    fill_words(table);
+    fill_bytes(result);
+    fill_bytes(text);
     Assembler::new()
 }
 
 // Kind 0: every slice filled anew, and both counts 0.
-pub(crate) fn start_anew(bytes: &mut [u8], words: &mut [u32]) -> Assembler {
+pub(crate) fn start_anew(
+    bytes: &mut [u8],
+    words: &mut [u32],
+    table: &mut [u32],
+    result: &mut [u8],
+    text: &mut [u8],
+) -> Assembler {
     say(b"new\n");
-    filled(bytes, words)
+    filled(bytes, words, table, result, text)
 }
 
 // Kind 16: byte a of the byte slice to b.
@@ -51,7 +66,7 @@ fn set_byte(store: Assembler, bytes: &mut [u8], a: u32, b: u32) -> Assembler {
     store
 }
 
-// Kind 17: word a of the word slice to b.
+// Kinds 17 and 19: word a of the word slice, or entry a of the table, to b.
 fn set_word(store: Assembler, words: &mut [u32], a: u32, b: u32) -> Assembler {
     let index = a as usize;
     if index >= words.len() {
@@ -71,49 +86,78 @@ fn set_counts(a: u32, b: u32) -> Assembler {
     }
 }
 
-// Kinds 16 to 18.
-pub(crate) fn set(store: Assembler, step: Step, bytes: &mut [u8], words: &mut [u32]) -> Assembler {
+// Kinds 16 to 19.
+pub(crate) fn set(
+    store: Assembler,
+    step: Step,
+    bytes: &mut [u8],
+    words: &mut [u32],
+    table: &mut [u32],
+) -> Assembler {
     let kind = step.kind;
     match kind {
         16 => set_byte(store, bytes, step.a, step.b),
         17 => set_word(store, words, step.a, step.b),
         18 => set_counts(step.a, step.b),
+        19 => set_word(store, table, step.a, step.b),
         _ => bad_step(store),
     }
 }
 
-// Kind 24: bytes a to b of the byte slice.
-fn show_bytes(store: Assembler, bytes: &[u8], a: u32, b: u32) -> Assembler {
+// Kinds 24 and 27: bytes a to b of the byte slice or the result.
+fn show_bytes(store: Assembler, name: &[u8], bytes: &[u8], a: u32, b: u32) -> Assembler {
     let from = a as usize;
     let to = b as usize;
     if from > to || to > bytes.len() {
         return bad_step(store);
     }
-    say(b"bytes ");
+    say(name);
     say_bytes(&bytes[from..to]);
     say(b"\n");
     store
 }
 
-// Kind 25: words a to b of the word slice.
-fn show_words(store: Assembler, words: &[u32], a: u32, b: u32) -> Assembler {
+// Kinds 25 and 26: words a to b of the word slice, or entries of the table.
+fn show_words(store: Assembler, name: &[u8], words: &[u32], a: u32, b: u32) -> Assembler {
     let from = a as usize;
     let to = b as usize;
     if from > to || to > words.len() {
         return bad_step(store);
     }
-    say(b"words ");
+    say(name);
     say_words(&words[from..to]);
     say(b"\n");
     store
 }
 
-// Kinds 24 and 25.
-pub(crate) fn show(store: Assembler, step: Step, bytes: &[u8], words: &[u32]) -> Assembler {
+// Kind 28: bytes a to b of the listing buffer, as they are.
+fn show_text(store: Assembler, text: &[u8], a: u32, b: u32) -> Assembler {
+    let from = a as usize;
+    let to = b as usize;
+    if from > to || to > text.len() {
+        return bad_step(store);
+    }
+    say(&text[from..to]);
+    store
+}
+
+// Kinds 24 to 28.
+pub(crate) fn show(
+    store: Assembler,
+    step: Step,
+    bytes: &[u8],
+    words: &[u32],
+    table: &[u32],
+    result: &[u8],
+    text: &[u8],
+) -> Assembler {
     let kind = step.kind;
     match kind {
-        24 => show_bytes(store, bytes, step.a, step.b),
-        25 => show_words(store, words, step.a, step.b),
+        24 => show_bytes(store, b"bytes ", bytes, step.a, step.b),
+        25 => show_words(store, b"words ", words, step.a, step.b),
+        26 => show_words(store, b"table ", table, step.a, step.b),
+        27 => show_bytes(store, b"result ", result, step.a, step.b),
+        28 => show_text(store, text, step.a, step.b),
         _ => bad_step(store),
     }
 }

@@ -1,5 +1,8 @@
 // What is printed: one line for each step, on standard output.
+use assembler::Assembled;
+use evm::landing::Landing;
 use libc::STDOUT_FILENO;
+use listing::Listed;
 use records::Assembler;
 use store::Built;
 use units::Refusal;
@@ -51,6 +54,40 @@ pub(crate) fn say_built(old: Assembler, built: Built) -> Assembler {
             say_refused(refusal);
             old
         }
+    }
+}
+
+// The line of an assembly call.
+pub(crate) fn say_assembled(assembled: Assembled) {
+    match assembled {
+        Assembled::Written { length, passes } => {
+            say(b"length ");
+            say_number(length);
+            say(b" passes ");
+            say_number(passes);
+            say(b"\n");
+        }
+        Assembled::Refused(refusal) => say_refused(refusal),
+    }
+}
+
+// The line of a listing call.
+pub(crate) fn say_listed(listed: Listed) {
+    match listed {
+        Listed::Text(length) => {
+            say(b"listing ");
+            io::print_decimal(STDOUT_FILENO, length as u64);
+            say(b"\n");
+        }
+        Listed::Refused(refusal) => say_refused(refusal),
+    }
+}
+
+// The line of a landing check.
+pub(crate) fn say_landing(landing: Landing) {
+    match landing {
+        Landing::Yes => say(b"yes\n"),
+        Landing::No => say(b"no\n"),
     }
 }
 

@@ -15,11 +15,11 @@ pub(crate) const MAX_BYTES: usize = 131072;
 
 pub(crate) const MAX_WORDS: usize = 65536;
 
-const MAX_TABLE: usize = 16384;
+pub(crate) const MAX_TABLE: usize = 16384;
 
-const MAX_RESULT: usize = 262144;
+pub(crate) const MAX_RESULT: usize = 262144;
 
-const MAX_LISTING: usize = 1048576;
+pub(crate) const MAX_LISTING: usize = 1048576;
 
 // The lengths of the five slices, and the pool count.
 pub(crate) struct Header {

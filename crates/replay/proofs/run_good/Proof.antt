@@ -14,6 +14,15 @@ byte-buffer-requires c κs = search needs
 word-buffer-requires : tie.Need-word-buffer-requires
 word-buffer-requires c κs = search needs
 
+table-buffer-requires : tie.Need-table-buffer-requires
+table-buffer-requires c κs = search needs
+
+result-buffer-requires : tie.Need-result-buffer-requires
+result-buffer-requires c κs = search needs
+
+text-buffer-requires : tie.Need-text-buffer-requires
+text-buffer-requires c κs = search needs
+
 sub-run-steps : tie.Need-sub-run-steps
 sub-run-steps c = search needs
 
@@ -44,6 +53,24 @@ array-borrow-prefix-words c = search needs
 slice-aggregate-run-steps-2 : tie.Need-slice-aggregate-run-steps-2
 slice-aggregate-run-steps-2 c = simp length-take (omega arith)
 
+array-borrow-prefix-table : tie.Need-array-borrow-prefix-table
+array-borrow-prefix-table c = search needs
+
+slice-aggregate-run-steps-3 : tie.Need-slice-aggregate-run-steps-3
+slice-aggregate-run-steps-3 c = simp length-take (omega arith)
+
+array-borrow-prefix-result : tie.Need-array-borrow-prefix-result
+array-borrow-prefix-result c = search needs
+
+slice-aggregate-run-steps-4 : tie.Need-slice-aggregate-run-steps-4
+slice-aggregate-run-steps-4 c = simp length-take (omega arith)
+
+array-borrow-prefix-text : tie.Need-array-borrow-prefix-text
+array-borrow-prefix-text c = search needs
+
+slice-aggregate-run-steps-5 : tie.Need-slice-aggregate-run-steps-5
+slice-aggregate-run-steps-5 c = simp length-take (omega arith)
+
 run-steps-requires : tie.Need-run-steps-requires
 run-steps-requires c κs = search needs
 
@@ -57,6 +84,9 @@ run-good-spec =
     add-steps
     byte-buffer-requires
     word-buffer-requires
+    table-buffer-requires
+    result-buffer-requires
+    text-buffer-requires
     sub-run-steps
     part-run-steps-start
     part-run-steps-end
@@ -67,5 +97,11 @@ run-good-spec =
     slice-aggregate-run-steps
     array-borrow-prefix-words
     slice-aggregate-run-steps-2
+    array-borrow-prefix-table
+    slice-aggregate-run-steps-3
+    array-borrow-prefix-result
+    slice-aggregate-run-steps-4
+    array-borrow-prefix-text
+    slice-aggregate-run-steps-5
     run-steps-requires
     returns)

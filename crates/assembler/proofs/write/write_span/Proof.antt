@@ -4,8 +4,8 @@ use borrow.Author.Needs.{needs}
 use Prim.Native.Nat.{ℕ, _+_, _-_, _≤_, _<_}
 use native.Mathlib.Omega.{arith}
 use mathlib.Core.Path.{_≡_, refl, sym, _∙_, ap}
-use mathlib.Core.List.{List, []}
-use lib.ListN.{length, set, length-set}
+use mathlib.Core.List.{[]}
+use lib.ListN.{length, length-set}
 use lib.Seq.{slice, slice-empty, length-slice}
 use denote.Ref.{now}
 use Rattle.store.specs.Calls.{over}

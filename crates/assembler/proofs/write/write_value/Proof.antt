@@ -1,12 +1,10 @@
 -- The invariant: with the `left` bytes of the rest still to be written, the result is as it is to be. The measure is the bytes left.
 -- Assumes nothing.
-use Prim.Native.Nat.{ℕ, suc, _+_, _-_, _/_, _%_, _≤_, _<_}
+use Prim.Native.Nat.{ℕ, suc, _+_, _-_, _%_, _≤_, _<_}
 use native.Mathlib.Omega.{arith}
 use native.Mathlib.Nat.{mod-lt}
 use mathlib.Core.Path.{_≡_, refl, sym, _∙_, ap}
-use mathlib.Core.List.{List, []}
-use lib.ListN.{length, set, length-set}
-use denote.Ref.{now}
+use lib.ListN.{length, length-set}
 use Rattle.units.specs.Numbers.{bigEndian}
 use Rattle.store.specs.Calls.{over}
 use Rattle.emission.proofs.Rows.{over-nothing, over-digit}
