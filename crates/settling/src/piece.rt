@@ -32,7 +32,7 @@ fn section_words(words: &[u32], i: usize) -> StoredSection
 }
 
 // Section i. A damaged reading has no bytes; in an undamaged store there is none.
-pub fn piece_at(words: &[u32], i: usize) -> Piece
+pub(crate) fn piece_at(words: &[u32], i: usize) -> Piece
     requires { ⌜ wordsPerSection * (i + 1) ≤ length (now words) ⌝ }
     ensures { λ r. ⌜ r ≡ pieceAt (now (words .entry)) i ⌝ }
 {

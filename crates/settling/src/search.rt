@@ -35,7 +35,7 @@ fn is_short(piece: Piece, limit: usize) -> bool
 }
 
 // The first section with a mark at or past the table's length.
-pub fn first_short(store: Assembler, bytes: &[u8], words: &[u32], limit: usize) -> u32
+pub(crate) fn first_short(store: Assembler, bytes: &[u8], words: &[u32], limit: usize) -> u32
     requires { ⌜ Whole store (now bytes) (now words) ⌝ }
     ensures { λ r. ⌜ r ≡ firstShort limit (sectionsOf store (now (bytes .entry)) (now (words .entry))) ⌝ }
 {
@@ -73,7 +73,7 @@ fn is_unplaced(piece: Piece, table: &[u32]) -> bool
 }
 
 // The first reference to a mark that is never placed.
-pub fn first_unplaced(store: Assembler, bytes: &[u8], words: &[u32], table: &[u32]) -> u32
+pub(crate) fn first_unplaced(store: Assembler, bytes: &[u8], words: &[u32], table: &[u32]) -> u32
     requires { ⌜ Fitting store (now bytes) (now words) (length (now table)) ⌝ }
     requires { ⌜ now table ≡ firstSums (length (now table)) (sectionsOf store (now bytes) (now words)) ⌝ }
     ensures { λ r. ⌜ r ≡ firstUnplaced (sectionsOf store (now (bytes .entry)) (now (words .entry))) ⌝ }
@@ -102,7 +102,7 @@ fn is_apart(piece: Piece, sum: u32, table: &[u32]) -> bool
 }
 
 // The first placing with bytes between it and an earlier one.
-pub fn first_apart(store: Assembler, bytes: &[u8], words: &[u32], table: &[u32]) -> u32
+pub(crate) fn first_apart(store: Assembler, bytes: &[u8], words: &[u32], table: &[u32]) -> u32
     requires { ⌜ Fitting store (now bytes) (now words) (length (now table)) ⌝ }
     requires { ⌜ now table ≡ firstSums (length (now table)) (sectionsOf store (now bytes) (now words)) ⌝ }
     ensures { λ r. ⌜ r ≡ firstApart (sectionsOf store (now (bytes .entry)) (now (words .entry))) ⌝ }
@@ -140,7 +140,7 @@ fn is_backward(piece: Piece, table: &[u32]) -> bool
 }
 
 // The first delta whose end is below its start.
-pub fn first_backward(store: Assembler, bytes: &[u8], words: &[u32], table: &[u32]) -> u32
+pub(crate) fn first_backward(store: Assembler, bytes: &[u8], words: &[u32], table: &[u32]) -> u32
     requires { ⌜ Fitting store (now bytes) (now words) (length (now table)) ⌝ }
     ensures { λ r. ⌜ r ≡ firstBackward (now (table .entry)) (sectionsOf store (now (bytes .entry)) (now (words .entry))) ⌝ }
 {

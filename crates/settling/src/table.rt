@@ -19,7 +19,7 @@ pub fn clear(table: &mut [u32])
 }
 
 // At each mark's first placing, the sum of least sizes before it, plus 1.
-pub fn place(store: Assembler, bytes: &[u8], words: &[u32], table: &mut [u32])
+pub(crate) fn place(store: Assembler, bytes: &[u8], words: &[u32], table: &mut [u32])
     requires { ⌜ Fitting store (now bytes) (now words) (length (now table)) ⌝ }
     requires { ⌜ now table ≡ replicate (length (now table)) 0 ⌝ }
     ensures { λ _. ⌜ now (table .exit) ≡ firstSums (length (now (table .entry))) (sectionsOf store (now (bytes .entry)) (now (words .entry))) ⌝ }
@@ -46,7 +46,7 @@ pub fn place(store: Assembler, bytes: &[u8], words: &[u32], table: &mut [u32])
 }
 
 // The start table.
-pub fn start(store: Assembler, bytes: &[u8], words: &[u32], table: &mut [u32])
+pub(crate) fn start(store: Assembler, bytes: &[u8], words: &[u32], table: &mut [u32])
     requires { ⌜ Fitting store (now bytes) (now words) (length (now table)) ⌝ }
     requires { ⌜ now table ≡ replicate (length (now table)) 0 ⌝ }
     ensures { λ _. ⌜ now (table .exit) ≡ start (length (now (table .entry))) (sectionsOf store (now (bytes .entry)) (now (words .entry))) ⌝ }
