@@ -34,7 +34,12 @@ fn value_of(mark_ref: MarkReference, table: &[u32]) -> u32
 }
 
 // The passes from a table on. Refusals: 10 too narrow, 11 unsettled, with the table all 0.
-pub(crate) fn run_passes(store: Assembler, bytes: &[u8], words: &[u32], table: &mut [u32]) -> Settled
+pub(crate) fn run_passes(
+    store: Assembler,
+    bytes: &[u8],
+    words: &[u32],
+    table: &mut [u32],
+) -> Settled
     requires { ⌜ Fitting store (now bytes) (now words) (length (now table)) ⌝ }
     ensures reply { λ r. ⌜ r ≡ passesReply (passes maxPasses 1 (sectionsOf store (now (bytes .entry)) (now (words .entry))) (now (table .entry))) ⌝ }
     ensures table { λ _. ⌜ now (table .exit) ≡ passesTable (length (now (table .entry))) (passes maxPasses 1 (sectionsOf store (now (bytes .entry)) (now (words .entry))) (now (table .entry))) ⌝ }
