@@ -22,24 +22,24 @@ use Rattle.layout.specs.Answer.{Answer, laidOut, refused, answer}
 use Rattle.emission.specs.Emission.{referenceBytes, inARow, codeOf}
 
 -- a call that adds a mark, an op byte, data, a reference to a mark, the pushed delta from mark a to mark b
-abbrev placing : ℕ → Call
+abbrev pub placing : ℕ → Call
 placing m = push (pushMark m)
 
-abbrev op : ℕ → Call
+abbrev pub op : ℕ → Call
 op b = push (pushOpByte b)
 
-abbrev «data» : List ℕ → Call
+abbrev pub «data» : List ℕ → Call
 «data» bs = push (pushData bs)
 
-abbrev ref : Bool → SetSize → ℕ → Call
+abbrev pub ref : Bool → SetSize → ℕ → Call
 ref pushed size m = push (pushReference (record { «mark_ref» = Direct (record { 0 = m }); «set_size» = size; pushed = pushed }))
 
-abbrev delta : ℕ → ℕ → Call
+abbrev pub delta : ℕ → ℕ → Call
 delta a b =
     push (pushReference (record { «mark_ref» = Delta (record { start = record { 0 = a }; end = record { 0 = b } }); «set_size» = Unsized; pushed = true }))
 
 -- lines 6 to 8: a reference, so much data, the mark
-abbrev far : SetSize → ℕ → List Call
+abbrev pub far : SetSize → ℕ → List Call
 far size n = ref true size 0 ∷ «data» (replicate n 0) ∷ placing 0 ∷ []
 
 -- what comes of calls and a table's length: the answer with the offsets, and the code

@@ -34,7 +34,7 @@ Verdict ss (narrowAt i k) = ((l : Layout) → GivesEnough ss l → ⊥) × (k �
 Verdict ss unsettled = ⊥
 
 -- the table starts at 0
-zeros : (n a : ℕ) → entry (replicate n 0) a ≡ 0
+pub zeros : (n a : ℕ) → entry (replicate n 0) a ≡ 0
 zeros zero a = refl
 zeros (suc n) zero = refl
 zeros (suc n) (suc a) = zeros n a

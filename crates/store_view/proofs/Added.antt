@@ -36,7 +36,7 @@ added-snoc y [] x s = refl
 added-snoc y (z ∷ zs) x s = ap (λ (l : List Section). y ∷ l) (added-snoc z zs x s)
 
 -- the same from the front
-added-to-snoc : (xs : List Section) (x s : Section) → addedTo (xs ++ (x ∷ [])) s ≡ xs ++ afterLast x s
+pub added-to-snoc : (xs : List Section) (x s : Section) → addedTo (xs ++ (x ∷ [])) s ≡ xs ++ afterLast x s
 unfolding addedTo addedAfter
 added-to-snoc [] x s = refl
 added-to-snoc (y ∷ ys) x s = added-snoc y ys x s
@@ -125,7 +125,7 @@ module _ (w : ℕ) (s : Section) (st : Store) (h : 3 ≤ w) (f : Facts w st) (sm
       }
 
   -- a section that doesn't join comes last in the list
-  added-apart : joins w s st ≡ false → addedTo (decode w st) s ≡ decode w st ++ (s ∷ [])
+  pub added-apart : joins w s st ≡ false → addedTo (decode w st) s ≡ decode w st ++ (s ∷ [])
   unfolding joins decode decodeFrom decodeAt addedTo
   added-apart e = go (dichotomy (ltb 0 (st .sections)))
     where

@@ -42,7 +42,7 @@ row-room w s st e n =
     record { fits = ltb-false _ _ (r .1); limit = ltb-false _ _ (r .0) }
 
 -- no large mark
-large-same : (p : Push) → hasLargeMark p ≡ large (added p)
+pub large-same : (p : Push) → hasLargeMark p ≡ large (added p)
 large-same (pushMark m) = refl
 large-same (pushOpByte b) = refl
 large-same (pushSwap d) = refl

@@ -1,0 +1,146 @@
+-- Demand 2, the building calls: on every list of them that the Rust accepts within 01's limits and the lent slices, ours are all stored,
+-- and the store decodes to the Rust's list. Assumes nothing.
+use Prim.Native.Nat.{ℕ, _+_, _*_}
+use native.Mathlib.Omega.{arith}
+use mathlib.Core.Path.{_≡_, refl, sym, ap, _∙_, subst}
+use mathlib.Core.Bool.{false, not}
+use mathlib.Mathlib.Data.Bool.Basic.{or-eq-false-eq-eq-false-and-eq-false as or-false}
+use mathlib.Core.List.{List, [], _∷_, _++_}
+use lib.ListN.{length, length-append, length-map}
+use lib.Dec.{ltb}
+use borrow.Author.Tests.{not-true, le-ltb}
+use Rattle.units.specs.Replies.{stored}
+use Rattle.records.specs.Store.{Store, wordsPerSection, maxSections}
+use Rattle.records.specs.Damage.{lastSoundness}
+use Rattle.records.specs.Sections.{Section, decode}
+use Rattle.store.specs.Calls.{Push, Call, push, clear, hasLargeMark, added, bytesOf, joins, joined, appended, withSection, bytesPass, noSectionLeft, sectionPasses, pushReply, pushAfter, callReply, callAfter, runReplies, runAfter, emptied}
+use Rattle.store.specs.Lists.{addedTo}
+use Rattle.store_view.specs.View.{Undamaged}
+use Rattle.store_view.specs.Answers.{unsound, IsStored, EveryStored}
+use Rattle.store_view.proofs.Tests.{false-and, cond-case}
+use Rattle.store_view.proofs.Soundness.{undamaged-iff, undamaged-last-sound}
+use Rattle.store_view.proofs.Added.{BytesRoom, added-apart}
+use Rattle.store_view.proofs.Refusals.{push-answers, stored-added}
+use Rattle.store_view.proofs.Calls.{large-same, call-kept, call-accepted, emptied-undamaged, emptied-decode}
+use Rattle.settling.proofs.Sections.{decode-count}
+use Rattle.rust_model.specs.Run.{done}
+use Rattle.rust_model.specs.Building.{Assembler, empty, call, calls}
+use Rattle.rust_model.specs.Sections.{fromStored, iterSections}
+use Rattle.rust_model.specs.Demand2.{seen, sectionsOf, Fits, marksWithin, AlwaysFits, Builds, opened, built, SameStore}
+use Rattle.rust_model.proofs.Spans.{Spans}
+use Rattle.rust_model.proofs.Runs.{done-inj, andThen-done}
+use Rattle.rust_model.proofs.Adds.{Kept}
+use Rattle.rust_model.proofs.Pushes.{Pushed, push-same}
+
+-- as many sections as the Rust's list has
+list-count : (a : Assembler) → length (sectionsOf a) ≡ length (a .sections)
+list-count a = length-map (iterSections a) (seen (a .bytes)) ∙ length-map (a .sections) fromStored
+
+-- a section's bytes come to the count, whether it joins or not
+with-bytes : (w : ℕ) (s : Section) (st : Store) → withSection w s st .storedBytes ≡ st .storedBytes + length (bytesOf s)
+unfolding withSection
+with-bytes w s st = cond-case (λ (x : Store). x .storedBytes ≡ st .storedBytes + length (bytesOf s)) (joins w s st) (joined w s st) (appended w s st) (λ t. refl) (λ t. refl)
+
+-- our store and the Rust's are the same, on slices of the lengths lent
+record Same (bs words : List ℕ) (st : Store) (a : Assembler) : Type 0 where
+  undamaged : Undamaged wordsPerSection st
+  decoded : decode wordsPerSection st ≡ sectionsOf a
+  count : st .storedBytes ≡ length (a .bytes)
+  bytesLent : length (st .bytes) ≡ length bs
+  wordsLent : length (st .words) ≡ length words
+  kept : Kept a
+
+same-count : (bs words : List ℕ) (st : Store) (a : Assembler) → Same bs words st a → st .sections ≡ length (a .sections)
+same-count bs words st a s = sym (decode-count wordsPerSection st) ∙ ap length (s .decoded) ∙ list-count a
+
+-- ---- one push
+
+module _ (bs words : List ℕ) (st : Store) (a a′ : Assembler) (p : Push) (same : Same bs words st a) (q : Pushed p a a′) (fits : Fits bs words a′) (small : hasLargeMark p ≡ false) where
+  -- the bytes afterwards
+  bytes-after : st .storedBytes + length (bytesOf (added p)) ≡ length (a′ .bytes)
+  bytes-after = ap (λ (n : ℕ). n + length (bytesOf (added p))) (same .count) ∙ sym (length-append (a .bytes) (bytesOf (added p))) ∙ sym (ap length (q .adds .bytesAdded))
+
+  -- the bytes fit
+  bytes-room : BytesRoom (added p) st
+  bytes-room = record { fits = omega (arith, bytes-after, fits .bytesFit, same .bytesLent); limit = omega (arith, bytes-after, fits .bytesLimit) }
+
+  not-bytes : bytesPass (added p) st ≡ false
+  unfolding bytesPass
+  not-bytes = le-ltb _ (st .storedBytes + length (bytesOf (added p))) (omega (arith, bytes-room .fits, bytes-room .limit))
+
+  -- a section that doesn't join is one more
+  one-more : joins wordsPerSection (added p) st ≡ false → st .sections + 1 ≡ length (a′ .sections)
+  one-more e =
+      let f = undamaged-iff wordsPerSection st .0 (same .undamaged) in
+      let apart : addedTo (decode wordsPerSection st) (added p) ≡ decode wordsPerSection st ++ (added p ∷ []) = added-apart wordsPerSection (added p) st (omega arith) f (sym (large-same p) ∙ small) bytes-room e in
+      let grown : sectionsOf a′ ≡ decode wordsPerSection st ++ (added p ∷ []) = q .adds .list ∙ ap (λ (l : List Section). addedTo l (added p)) (sym (same .decoded)) ∙ apart in
+      omega (arith, decode-count wordsPerSection st, length-append (decode wordsPerSection st) (added p ∷ []), ap length grown, list-count a′)
+
+  -- it fits
+  not-section : sectionPasses wordsPerSection (added p) st ≡ false
+  unfolding sectionPasses noSectionLeft
+  not-section =
+      false-and (not (joins wordsPerSection (added p) st)) _ (λ t.
+      let n : st .sections + 1 ≡ length (a′ .sections) = one-more (not-true _ t) in
+      or-false (ltb maxSections (st .sections + 1)) (ltb (length (st .words)) (wordsPerSection * (st .sections + 1))) .1
+      (le-ltb maxSections (st .sections + 1) (omega (arith, n, fits .sectionsLimit)), le-ltb (length (st .words)) (wordsPerSection * (st .sections + 1)) (omega (arith, n, fits .wordsFit, same .wordsLent))))
+
+  -- so the call is stored
+  reply : pushReply wordsPerSection p st ≡ stored (withSection wordsPerSection (added p) st .storedBytes) (withSection wordsPerSection (added p) st .sections)
+  reply =
+      let sound : unsound (lastSoundness wordsPerSection st) ≡ false = ap unsound (undamaged-last-sound wordsPerSection st (same .undamaged)) in
+      push-answers wordsPerSection p st .stored-iff _ _ .1 ((q .depth, (q .word, (small, (sound, (not-bytes, (not-section, tt)))))), refl, refl)
+
+  -- and the stores are the same afterwards
+  same-after : Same bs words (pushAfter wordsPerSection p st) a′
+  same-after =
+      let accepted = call-accepted wordsPerSection (push p) st _ _ (omega arith) (same .undamaged) reply in
+      let slices = call-kept wordsPerSection (push p) st (omega arith) in
+      record {
+        undamaged = accepted .undamaged;
+        decoded = accepted .list ∙ ap (λ (l : List Section). addedTo l (added p)) (same .decoded) ∙ sym (q .adds .list);
+        count = ap (λ (x : Store). x .storedBytes) (stored-added wordsPerSection p st _ _ reply) ∙ with-bytes wordsPerSection (added p) st ∙ bytes-after;
+        bytesLent = slices .bytesLength ∙ same .bytesLent;
+        wordsLent = slices .wordsLength ∙ same .wordsLent;
+        kept = q .adds .kept;
+      }
+
+-- ---- any call, and lists of them
+
+module _ (bs words : List ℕ) where
+  -- the empty store
+  same-empty : (st : Store) → length (st .bytes) ≡ length bs → length (st .words) ≡ length words → Same bs words (emptied st) empty
+  same-empty st b w =
+      record {
+        undamaged = emptied-undamaged wordsPerSection st;
+        decoded = emptied-decode wordsPerSection st;
+        count = refl;
+        bytesLent = b;
+        wordsLent = w;
+        kept = record { spans = tt; last = tt };
+      }
+
+  call-same : (c : Call) (st : Store) (a a′ : Assembler) → Same bs words st a → marksWithin c → call c a ≡ done a′ → Fits bs words a′
+      → IsStored (callReply wordsPerSection c st) × Same bs words (callAfter wordsPerSection c st) a′
+  call-same (push p) st a a′ s m r f =
+      let q : Pushed p a a′ = push-same p a a′ (s .kept) r in
+      (subst IsStored (sym (reply bs words st a a′ p s q f m)) tt, same-after bs words st a a′ p s q f m)
+  call-same clear st a a′ s m r f = (tt, subst (Same bs words (emptied st)) (done-inj r) (same-empty st (s .bytesLent) (s .wordsLent)))
+
+  run-same : (cs : List Call) (st : Store) (a a′ : Assembler) → Same bs words st a → calls cs a ≡ done a′ → AlwaysFits bs words cs a
+      → EveryStored (runReplies wordsPerSection cs st) × Same bs words (runAfter wordsPerSection cs st) a′
+  unfolding calls AlwaysFits runReplies runAfter
+  run-same [] st a a′ s r f = (tt, subst (Same bs words st) (done-inj r) s)
+  run-same (c ∷ cs) st a a′ s r f =
+      let r₁ = andThen-done (call c a) (calls cs) a′ r in
+      let g = f .1 (r₁ .0) (r₁ .1) in
+      let one = call-same c st a (r₁ .0) s (f .0) (r₁ .1) (g .0) in
+      let rest = run-same cs (callAfter wordsPerSection c st) (r₁ .0) a′ (one .1) (r₁ .2) (g .1) in
+      ((one .0, rest .0), rest .1)
+
+-- our calls are all stored and come to the Rust's list; its spans are within its bytes, and our store is undamaged
+pub calls-same : (bs words : List ℕ) (cs : List Call) (a : Assembler) → Builds bs words cs a → SameStore bs words cs a × Spans a × Undamaged wordsPerSection (built bs words cs)
+calls-same bs words cs a h =
+    let r = run-same bs words cs (opened bs words) empty a (same-empty bs words (opened bs words) refl refl) (h .noPanic) (h .fits) in
+    let s : Same bs words (built bs words cs) a = r .1 in
+    (record { accepted = r .0; decoded = s .decoded; bytesCount = s .count; sectionsCount = same-count bs words (built bs words cs) a s }, s .kept .spans, s .undamaged)

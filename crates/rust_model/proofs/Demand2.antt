@@ -1,0 +1,18 @@
+-- Demand 2, proved. Assumes nothing.
+use mathlib.Core.List.{List}
+use Prim.Native.Nat.{ℕ}
+use Rattle.store.specs.Calls.{Call}
+use Rattle.rust_model.specs.Building.{Assembler}
+use Rattle.rust_model.specs.Demand2.{Builds, built, Demand2}
+use Rattle.rust_model.proofs.Building.{calls-same}
+use Rattle.rust_model.proofs.Assembly.{assembly-same}
+use Rattle.rust_model.proofs.Listing.{listing-same}
+
+pub demand-2 : (bs words : List ℕ) (cs : List Call) (a : Assembler) → Builds bs words cs a → Demand2 bs words cs a
+demand-2 bs words cs a given =
+    let same = calls-same bs words cs a given in
+    record {
+      store = same .0;
+      assembly = λ lent own premises before result position. assembly-same a (built bs words cs) (same .1) (same .2) (same .0 .decoded) lent own premises before result position;
+      listing = listing-same a (built bs words cs) (same .1) (same .2) (same .0 .decoded);
+    }

@@ -1,0 +1,260 @@
+-- Lines 7, 8 and 12 of 01's layouts tried by hand, carried through demand 2: the Rust's answer is computed from its definition, and the
+-- theorem says that ours is the same. Assumes nothing.
+use Prim.Native.Nat.{ℕ, _+_, _*_, _≤_, _<_}
+use Prim.Native.String.{String}
+use native.Mathlib.Omega.{arith}
+use mathlib.Core.Path.{_≡_, refl, sym, ap, _∙_, subst}
+use mathlib.Core.Bool.{Bool, true, false, not, _&&_, and-eq-true-iff as and-true}
+use mathlib.Core.List.{List, [], _∷_, _++_, map, reverse}
+use lib.Dec.{leb}
+use lib.ListN.{length, drop, replicate}
+use borrow.Author.Tests.{leb-true, not-true}
+use Rattle.units.specs.declared.RefSize.the-variants.{S1, S2}
+use Rattle.units.specs.declared.SetSize.{SetSize}
+use Rattle.units.specs.declared.SetSize.the-variants.{Unsized, Sized}
+use Rattle.units.specs.declared.MarkReference.the-variants.{Delta}
+use Rattle.records.specs.Store.{maxBytes, maxSections, wordsPerSection}
+use Rattle.records.specs.Sections.{Section}
+use Rattle.records.specs.Damage.{leastFrom}
+use Rattle.store.specs.Calls.{Call, push, clear, hasLargeMark, pushReference, over}
+use Rattle.units.specs.Replies.{tooNarrow}
+use Rattle.layout.specs.Passes.{entry}
+use Rattle.layout.specs.Conditions.{placed, someBytes, shortAt, firstShort, unplacedAt, firstUnplaced, apartAt, firstApart}
+use Rattle.layout.proofs.Least.{never-law}
+use Rattle.opcodes.specs.Text.{asBytes}
+use Rattle.opcodes.specs.Names.{opName, lookup, opNames}
+use Rattle.assembler.specs.Assemble.{Outcome, written, refused, assembly}
+use Rattle.listing.specs.Answer.{listed, listingReply, listingBuffer}
+use Rattle.hand.proofs.Lines.{placing, op, «data», ref, far}
+use Rattle.rust_model.specs.Run.{Run, done, panic, addU32, subU32, index, indexMut, range, lenIdx, pushed}
+use Rattle.rust_model.specs.Building.{StoredAsmSection, Mark, Ops, Data, DirectMarkRef, Size2RawDeltaRef, Assembler, empty, leBytes, lastOf, lastMut, extendOps, newOps, opByte, extendData, newData, pushedData, call, calls}
+use Rattle.rust_model.specs.Sections.{bytesToHold, saturatingSub}
+use Rattle.rust_model.specs.Assemble.{startFrom, walkFrom, iterate, converge, emitBytes, emitRef, emitFrom, assembled, tooSmallSetSize, assemble}
+use Rattle.rust_model.specs.Demand2.{sectionsOf, Fits, marksWithin, AlwaysFits, Builds, built, Assembles, SameAssembly}
+use Rattle.rust_model.specs.Display.{pushSize, hexDigit, hexBytes, digitsBefore, displayed, pushLine, fmtOpsFrom, fmtOps, fmtMarkRef, markLine, dataLine, textFrom, writeAsm}
+use Rattle.rust_model.proofs.Demand2.{demand-2}
+use Rattle.rust_model.proofs.Runs.{done-inj}
+use Rattle.rust_model.proofs.Assembly.{below-length}
+
+-- ---- premises by computing
+
+-- the premise on limits and slices, as a test
+unfoldable fitsNow : List ℕ → List ℕ → Assembler → Bool
+fitsNow bs words a =
+    leb (length (a .bytes)) maxBytes
+    && (leb (length (a .bytes)) (length bs)
+    && (leb (length (a .sections)) maxSections && leb (wordsPerSection * length (a .sections)) (length words)))
+
+unfoldable isWithin : Call → Bool
+isWithin (push p) = not (hasLargeMark p)
+isWithin clear = true
+
+unfoldable fitsAfter : (Assembler → Bool) → Run Assembler → Bool
+fitsAfter test (done a) = test a
+fitsAfter test panic = true
+
+unfoldable fitsFrom : List ℕ → List ℕ → List Call → Assembler → Bool
+fitsFrom bs words [] a = true
+fitsFrom bs words (c ∷ cs) a = isWithin c && fitsAfter (λ a′. fitsNow bs words a′ && fitsFrom bs words cs a′) (call c a)
+
+-- what the test tells of a store
+now-law : (bs words : List ℕ) (a : Assembler) → fitsNow bs words a ≡ true → Fits bs words a
+unfolding fitsNow
+now-law bs words a e =
+    let p = and-true _ _ .0 e in
+    let q = and-true _ _ .0 (p .1) in
+    let r = and-true _ _ .0 (q .1) in
+    record { bytesLimit = leb-true _ _ (p .0); bytesFit = leb-true _ _ (q .0); sectionsLimit = leb-true _ _ (r .0); wordsFit = leb-true _ _ (r .1) }
+
+within-law : (c : Call) → isWithin c ≡ true → marksWithin c
+unfolding isWithin
+within-law (push p) e = not-true (hasLargeMark p) e
+within-law clear e = tt
+
+-- and of a list of calls
+fits-law : (bs words : List ℕ) (cs : List Call) (a : Assembler) → fitsFrom bs words cs a ≡ true → AlwaysFits bs words cs a
+unfolding fitsFrom fitsAfter AlwaysFits
+fits-law bs words [] a e = tt
+fits-law bs words (c ∷ cs) a e =
+    let p = and-true (isWithin c) _ .0 e in (
+      within-law c (p .0),
+      λ a′ q.
+          let here : fitsAfter (λ x. fitsNow bs words x && fitsFrom bs words cs x) (done a′) ≡ true =
+          subst (λ (r : Run Assembler). fitsAfter (λ x. fitsNow bs words x && fitsFrom bs words cs x) r ≡ true) q (p .1) in
+          let both = and-true (fitsNow bs words a′) (fitsFrom bs words cs a′) .0 here in
+          (now-law bs words a′ (both .0), fits-law bs words cs a′ (both .1)),
+    )
+
+-- the list of sections has none of the conditions for 7, 8 and 9, by either table
+assembles : (a : Assembler) (lent own : ℕ) → firstUnplaced (sectionsOf a) ≡ length (sectionsOf a) → firstApart (sectionsOf a) ≡ length (sectionsOf a)
+    → firstShort lent (sectionsOf a) ≡ length (sectionsOf a) → firstShort own (sectionsOf a) ≡ length (sectionsOf a) → Assembles a lent own
+unfolding firstUnplaced firstApart firstShort
+assembles a lent own u p s o =
+    record {
+      marksPlaced = never-law (sectionsOf a) (unplacedAt (sectionsOf a)) .0 u;
+      together = never-law (sectionsOf a) (apartAt (sectionsOf a)) .0 p;
+      inTable = never-law (sectionsOf a) (shortAt lent (sectionsOf a)) .0 s;
+      grown = below-length own (sectionsOf a) (never-law (sectionsOf a) (shortAt own (sectionsOf a)) .0 o);
+    }
+
+-- ---- lines 7 and 8: a pushed reference, 254 bytes of data, the mark
+
+abbrev direct : SetSize → StoredAsmSection
+direct size = DirectMarkRef 0 size true
+
+-- what the calls come to
+abbrev farStore : SetSize → Assembler
+farStore size = record { bytes = replicate 254 0; sections = direct size ∷ Data (record { start = 0; end = 254 }) ∷ Mark 0 ∷ [] }
+
+-- lent slices that are just long enough
+abbrev farBytes : List ℕ
+farBytes = replicate 254 0
+
+abbrev farWords : List ℕ
+farWords = replicate 9 0
+
+far-builds : (size : SetSize) → Builds farBytes farWords (far size 254) (farStore size)
+unfolding calls pushedData lastMut lastOf newData lenIdx fitsFrom fitsAfter fitsNow isWithin
+far-builds size = record { noPanic = refl; fits = fits-law farBytes farWords (far size 254) empty refl }
+
+-- by a lent table of one entry, and by a table of the Rust's first length, 128
+far-assembles : (size : SetSize) → Assembles (farStore size) 1 128
+unfolding firstShort shortAt firstUnplaced unplacedAt firstApart apartAt leastFrom placed someBytes
+far-assembles size = assembles (farStore size) 1 128 refl refl refl refl
+
+-- the Rust's own answer to line 7: 61 01 01 and the data, the mark at 257
+rust-7 : assemble 128 (farStore Unsized) [] ≡ done (assembled (257 ∷ replicate 127 0) (0x61 ∷ 0x01 ∷ 0x01 ∷ replicate 254 0))
+unfolding assemble converge startFrom walkFrom iterate emitFrom emitRef emitBytes index indexMut addU32 subU32 range bytesToHold leBytes
+rust-7 = refl
+
+-- and to line 8: section 0
+rust-8 : assemble 128 (farStore (Sized S1)) [] ≡ done (tooSmallSetSize 0)
+unfolding assemble converge startFrom walkFrom iterate index indexMut addU32 subU32 bytesToHold
+rust-8 = refl
+
+-- what ours comes to on the same calls, a result lent from position 0
+abbrev farOurs : SetSize → List ℕ → Outcome
+farOurs size result = assembly wordsPerSection (built farBytes farWords (far size 254)) 1 result 0
+
+far-same : (size : SetSize) (result : List ℕ) → SameAssembly (farStore size) [] result 0 (farOurs size result) (assemble 128 (farStore size) [])
+far-same size result = demand-2 farBytes farWords (far size 254) (farStore size) (far-builds size) .assembly 1 128 (far-assembles size) [] result 0
+
+-- the code that was appended to nothing, as ours wrote it
+carried : (a : Assembler) (table code result : List ℕ) (ours : Outcome) → SameAssembly a [] result 0 ours (done (assembled table code)) → length code ≤ length result
+    → (passes : ℕ) × (ours .reply ≡ written (length code) passes) × (ours .result ≡ over result 0 code)
+    × ((m : ℕ) → placed (sectionsOf a) m ≡ true → entry (ours .table) m ≡ entry table m)
+carried a table code result ours same fits =
+    let is : code ≡ same .code = same .appended in
+    let room : 0 + length (same .code) ≤ length result = omega (arith, ap (λ (l : List ℕ). length l) is) in (
+      same .passes,
+      same .reply room ∙ ap (λ (l : List ℕ). written (length l) (same .passes)) (sym is),
+      same .wrote room ∙ ap (over result 0) (sym is),
+      same .offsets room,
+    )
+
+-- line 7: 'With 254: 61 01 01 and data, mark at 257'
+pub line-7 : (result : List ℕ) → 257 ≤ length result
+    → (passes : ℕ) × (farOurs Unsized result .reply ≡ written 257 passes) × (farOurs Unsized result .result ≡ over result 0 (0x61 ∷ 0x01 ∷ 0x01 ∷ replicate 254 0))
+    × (entry (farOurs Unsized result .table) 0 ≡ 257)
+unfolding placed
+line-7 result fits =
+    let q = carried (farStore Unsized) (257 ∷ replicate 127 0) (0x61 ∷ 0x01 ∷ 0x01 ∷ replicate 254 0) result (farOurs Unsized result)
+    (subst (SameAssembly (farStore Unsized) [] result 0 (farOurs Unsized result)) rust-7 (far-same Unsized result)) fits in
+    (q .0, q .1, q .2, q .3 0 refl)
+
+-- line 8: 'As 7, size 1: number 10, section 0'
+pub line-8 : (result : List ℕ) → (passes : ℕ) × (farOurs (Sized S1) result .reply ≡ refused tooNarrow 0 passes)
+line-8 result = subst (SameAssembly (farStore (Sized S1)) [] result 0 (farOurs (Sized S1) result)) rust-8 (far-same (Sized S1) result)
+
+-- ---- line 12: the calls of the program `show`
+
+abbrev showCalls : List Call
+showCalls =
+    placing 0
+    ∷ op 0x5b
+    ∷ ref true Unsized 1
+    ∷ op 0x56
+    ∷ placing 1
+    ∷ op 0x5b
+    ∷ «data» (0xaa ∷ 0xbb ∷ [])
+    ∷ push (pushReference (record { «mark_ref» = Delta (record { start = record { 0 = 0 }; end = record { 0 = 1 } }); «set_size» = Sized S2; pushed = false }))
+    ∷ []
+
+-- what they come to in the Rust
+abbrev showStore : Assembler
+showStore =
+    record {
+      bytes = 0x5b ∷ 0x56 ∷ 0x5b ∷ 0xaa ∷ 0xbb ∷ [];
+      sections =
+          Mark 0
+          ∷ Ops (record { start = 0; end = 1 })
+          ∷ DirectMarkRef 1 Unsized true
+          ∷ Ops (record { start = 1; end = 2 })
+          ∷ Mark 1
+          ∷ Ops (record { start = 2; end = 3 })
+          ∷ Data (record { start = 3; end = 5 })
+          ∷ Size2RawDeltaRef (record { start = record { 0 = 0 }; end = record { 0 = 1 } })
+          ∷ [];
+    }
+
+abbrev showBytes : List ℕ
+showBytes = replicate 5 0
+
+abbrev showWords : List ℕ
+showWords = replicate 24 0
+
+show-builds : Builds showBytes showWords showCalls showStore
+unfolding calls opByte pushedData lastMut lastOf newOps newData lenIdx pushed fitsFrom fitsAfter fitsNow isWithin
+show-builds = record { noPanic = refl; fits = fits-law showBytes showWords showCalls empty refl }
+
+show-assembles : Assembles showStore 2 128
+unfolding firstShort shortAt firstUnplaced unplacedAt firstApart apartAt leastFrom placed someBytes
+show-assembles = assembles showStore 2 128 refl refl refl refl
+
+-- 'code 5b 60 04 56 5b aa bb 00 04'
+abbrev showCode : List ℕ
+showCode = 0x5b ∷ 0x60 ∷ 0x04 ∷ 0x56 ∷ 0x5b ∷ 0xaa ∷ 0xbb ∷ 0x00 ∷ 0x04 ∷ []
+
+rust-12 : assemble 128 showStore [] ≡ done (assembled (0 ∷ 4 ∷ replicate 126 0) showCode)
+unfolding assemble converge startFrom walkFrom iterate emitFrom emitRef emitBytes index indexMut addU32 subU32 range bytesToHold leBytes saturatingSub
+rust-12 = refl
+
+abbrev showOurs : List ℕ → Outcome
+showOurs result = assembly wordsPerSection (built showBytes showWords showCalls) 2 result 0
+
+-- the text that 01 prints
+abbrev showText : List ℕ
+showText =
+    asBytes ".mark0:\n"
+    ++ asBytes "  JUMPDEST\n"
+    ++ asBytes "  PUSH .mark1\n"
+    ++ asBytes "  JUMP\n"
+    ++ asBytes ".mark1:\n"
+    ++ asBytes "  JUMPDEST\n"
+    ++ asBytes "  data 0xaabb (2 bytes)\n"
+    ++ asBytes "  RAW (.mark1 - .mark0):2\n"
+
+rust-text-12 : writeAsm showStore ≡ done showText
+unfolding writeAsm textFrom range markLine dataLine fmtOps fmtOpsFrom pushLine pushSize hexBytes hexDigit displayed digitsBefore fmtMarkRef asBytes opName lookup opNames
+rust-text-12 = refl
+
+-- line 12, the code
+pub line-12 : (result : List ℕ) → 9 ≤ length result
+    → (passes : ℕ) × (showOurs result .reply ≡ written 9 passes) × (showOurs result .result ≡ over result 0 showCode)
+    × (entry (showOurs result .table) 0 ≡ 0) × (entry (showOurs result .table) 1 ≡ 4)
+unfolding placed
+line-12 result fits =
+    let same = demand-2 showBytes showWords showCalls showStore show-builds .assembly 2 128 show-assembles [] result 0 in
+    let q = carried showStore (0 ∷ 4 ∷ replicate 126 0) showCode result (showOurs result) (subst (SameAssembly showStore [] result 0 (showOurs result)) rust-12 same) fits in
+    (q .0, q .1, q .2, q .3 0 refl, q .3 1 refl)
+
+-- and the listing
+pub line-12-text : (buffer : List ℕ) → length showText ≤ length buffer
+    → (listingReply wordsPerSection (built showBytes showWords showCalls) buffer ≡ listed (length showText))
+    × (listingBuffer wordsPerSection (built showBytes showWords showCalls) buffer ≡ showText ++ drop (length showText) buffer)
+line-12-text buffer fits =
+    let same = demand-2 showBytes showWords showCalls showStore show-builds .listing in
+    let is : same .text ≡ showText = done-inj (sym (same .written) ∙ rust-text-12) in (
+      subst (λ (t : List ℕ). length t ≤ length buffer → listingReply wordsPerSection (built showBytes showWords showCalls) buffer ≡ listed (length t)) is (same .reply buffer) fits,
+      subst (λ (t : List ℕ). length t ≤ length buffer → listingBuffer wordsPerSection (built showBytes showWords showCalls) buffer ≡ t ++ drop (length t) buffer) is (same .holds buffer) fits,
+    )

@@ -1,0 +1,175 @@
+-- The Rust's `converge_mark_offsets` and `assemble`, written from lib.rs. The length of its offset table depends on its allocator: it is a
+-- parameter, and every length is meant. A table that grows by zeros to its last length, and one that has that length from the start, hold
+-- the same entries. Assumes nothing.
+use Prim.Native.Nat.{ℕ, zero, suc, _+_, _-_}
+use mathlib.Core.Bool.{Bool, true, false, cond, _&&_, _||_}
+use mathlib.Core.List.{List, [], _∷_, _++_, reverse}
+use mathlib.Core.Option.{Option, none, some}
+use lib.Dec.{ltb, eqb}
+use lib.ListN.{replicate, take}
+use Rattle.units.specs.declared.RefSize.{RefSize}
+use Rattle.units.specs.declared.SetSize.{SetSize}
+use Rattle.units.specs.declared.SetSize.the-variants.{Unsized, Sized}
+use Rattle.units.specs.declared.MarkReference.{MarkReference}
+use Rattle.units.specs.declared.MarkReference.the-variants.{Direct, Delta}
+use Rattle.units.specs.declared.AsmReference.{AsmReference}
+use Rattle.rust_model.specs.Run.{Run, done, panic, andThen, addU32, subU32, index, indexMut, range}
+use Rattle.rust_model.specs.Building.{Span, Assembler, leBytes}
+use Rattle.rust_model.specs.Sections.{AsmSection, Mark, Ops, Data, MarkRef, iterSections, asU32, bytesToHold, minCompiledSize, compiledSize}
+
+-- ---- the start table
+
+-- `mark_to_offset[id] = min_size`, at a mark
+abbrev pub startMark : AsmSection → ℕ → List ℕ → Run (List ℕ)
+startMark (Mark id) min table = indexMut table id min
+startMark (Ops span) min table = done table
+startMark (Data span) min table = done table
+startMark (MarkRef r) min table = done table
+
+-- the first loop, from `min_size` and the table so far
+unfoldable pub startFrom : List AsmSection → ℕ → List ℕ → Run (List ℕ)
+startFrom [] min table = done table
+startFrom (s ∷ ss) min table =
+    andThen (startMark s min table) (λ table′.
+    andThen (minCompiledSize s) (λ size.
+    andThen (addU32 min size) (λ min′.
+    startFrom ss min′ table′)))
+
+-- ---- one iteration
+
+-- what the walk carries: `converged` and the table
+pub record Walk : Type 0 where
+  pub converged : Bool
+  pub table : List ℕ
+
+-- how it ends: at the last section, or by `RefHasTooSmallSetSize(i)`
+pub data Walked : Type 0 where
+  walked : Walk → Walked
+  tooSmall : ℕ → Walked
+
+-- `if prev_offset != current_code_offset`
+abbrev pub moveMark : ℕ → ℕ → Walk → ℕ → Run Walk
+moveMark id current w prev =
+    cond (eqb prev current) (done w)
+    (andThen (indexMut (w .table) id current) (λ table′. done (record { converged = false; table = table′ })))
+
+-- `if let AsmSection::Mark(id) = section`
+abbrev pub walkMark : AsmSection → ℕ → Walk → Run Walk
+walkMark (Mark id) current w = andThen (index (w .table) id) (moveMark id current w)
+walkMark (Ops span) current w = done w
+walkMark (Data span) current w = done w
+walkMark (MarkRef r) current w = done w
+
+-- `.ok_or(AssembleError::RefHasTooSmallSetSize(i))?`, then what follows
+abbrev pub orTooSmall : ℕ → Option ℕ → (ℕ → Run Walked) → Run Walked
+orTooSmall i none next = done (tooSmall i)
+orTooSmall i (some size) next = next size
+
+-- the walk over the sections from i on, from `current_code_offset`: a mark is moved where it is met,
+-- so that the sections behind it are sized by its new offset;
+-- a set size that is too small ends it there
+unfoldable pub walkFrom : List AsmSection → ℕ → ℕ → Walk → Run Walked
+walkFrom [] i current w = done (walked w)
+walkFrom (s ∷ ss) i current w =
+    andThen (walkMark s current w) (λ w′.
+    andThen (compiledSize (w′ .table) s) (λ size.
+    orTooSmall i size (λ n.
+    andThen (addU32 current n) (λ current′.
+    walkFrom ss (suc i) current′ w′))))
+
+-- ---- `converge_mark_offsets`
+
+pub data Converged : Type 0 where
+  ok : List ℕ → Converged
+  refHasTooSmallSetSize : ℕ → Converged
+
+-- `if converged { return Ok(()) }`, else the iterations that are left
+abbrev pub decide : (List ℕ → Run Converged) → Bool → List ℕ → Run Converged
+decide next true table = done (ok table)
+decide next false table = next table
+
+abbrev pub afterWalk : (List ℕ → Run Converged) → Walked → Run Converged
+afterWalk next (walked w) = decide next (w .converged) (w .table)
+afterWalk next (tooSmall i) = done (refHasTooSmallSetSize i)
+
+-- the second loop: after the iterations allowed comes `unreachable!`
+unfoldable pub iterate : ℕ → List AsmSection → List ℕ → Run Converged
+iterate zero ss table = panic
+iterate (suc left) ss table =
+    andThen (walkFrom ss 0 0 (record { converged = true; table = table })) (afterWalk (iterate left ss))
+
+-- `MAX_ASSEMBLER_CONVERGENCE_ITERS`
+abbrev pub maxIterations : ℕ
+maxIterations = 1024
+
+-- `converge_mark_offsets`, by a table that has length n in the end
+unfoldable pub converge : ℕ → List AsmSection → Run Converged
+converge n ss = andThen (startFrom ss 0 (replicate n 0)) (iterate maxIterations ss)
+
+-- ---- emission
+
+-- a reference's value: `checked_sub`, and `expect`
+abbrev pub emitValue : List ℕ → MarkReference → Run ℕ
+emitValue table (Direct id) = index table (id .0)
+emitValue table (Delta span) =
+    andThen (index table (span .end .0)) (λ end. andThen (index table (span .start .0)) (λ start. subU32 end start))
+
+-- `mark_ref.set_size.unwrap_or(ref_size)`
+abbrev pub unwrapOr : SetSize → RefSize → RefSize
+unwrapOr Unsized held = held
+unwrapOr (Sized s) held = s
+
+-- `value == 0 && mark_ref.set_size.is_none() && mark_ref.pushed`
+abbrev pub isPush0 : ℕ → SetSize → Bool → Bool
+isPush0 v Unsized pushed = eqb v 0 && pushed
+isPush0 v (Sized s) pushed = false
+
+-- `set_size.is_none_or(|set_size| set_size >= ref_size)`, negated
+abbrev pub isInvalid : SetSize → RefSize → Bool
+isInvalid Unsized held = false
+isInvalid (Sized s) held = ltb (asU32 s) (asU32 held)
+
+-- `if mark_ref.pushed { result.push(op::PUSH1 + ref_size as u8 - 1) }`
+abbrev pub emitOp : Bool → RefSize → List ℕ
+emitOp true size = (0x60 + asU32 size - 1) ∷ []
+emitOp false size = []
+
+-- the opcode if pushed, then the bytes of `value.to_le_bytes()` below the size, the last first
+unfoldable pub emitBytes : Bool → RefSize → ℕ → List ℕ
+emitBytes pushed size v = emitOp pushed size ++ reverse (take (asU32 size) (leBytes 4 v))
+
+-- what is appended for a reference of value v
+unfoldable pub emitRef : SetSize → Bool → ℕ → Run (List ℕ)
+emitRef size pushed v =
+    cond (isPush0 v size pushed) (done (0x5f ∷ []))
+    (cond (isInvalid size (bytesToHold v)) panic
+    (done (emitBytes pushed (unwrapOr size (bytesToHold v)) v)))
+
+-- what is appended for a section
+abbrev pub emitSection : List ℕ → List ℕ → AsmSection → Run (List ℕ)
+emitSection bytes table (Mark id) = done []
+emitSection bytes table (Ops span) = range bytes (span .start) (span .end)
+emitSection bytes table (Data span) = range bytes (span .start) (span .end)
+emitSection bytes table (MarkRef r) = andThen (emitValue table (r .«mark_ref»)) (emitRef (r .«set_size») (r .pushed))
+
+-- the loop over the sections, appending to what `result` holds
+unfoldable pub emitFrom : List ℕ → List ℕ → List AsmSection → List ℕ → Run (List ℕ)
+emitFrom bytes table [] result = done result
+emitFrom bytes table (s ∷ ss) result =
+    andThen (emitSection bytes table s) (λ more. emitFrom bytes table ss (result ++ more))
+
+-- ---- `assemble`
+
+pub data Assembled : Type 0 where
+  -- `Ok`: the offset table returned, and the result
+  assembled : List ℕ → List ℕ → Assembled
+  -- `Err(AssembleError::RefHasTooSmallSetSize(i))`
+  tooSmallSetSize : ℕ → Assembled
+
+abbrev pub emission : Assembler → List ℕ → Converged → Run Assembled
+emission a result (ok table) = andThen (emitFrom (a .bytes) table (iterSections a) result) (λ result′. done (assembled table result′))
+emission a result (refHasTooSmallSetSize i) = done (tooSmallSetSize i)
+
+-- `assemble`, appending to a result, by a table that has length n in the end
+unfoldable pub assemble : ℕ → Assembler → List ℕ → Run Assembled
+assemble n a result = andThen (converge n (iterSections a)) (emission a result)
