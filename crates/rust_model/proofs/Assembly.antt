@@ -37,13 +37,13 @@ use Rattle.assembler.specs.Assemble as reply
 use Rattle.assembler.proofs.Decoded.{stored-small}
 use Rattle.assembler.proofs.Laid.{sound-settles, laid}
 use Rattle.assembler.proofs.Outcomes.{outcome-refused, outcome-written, fits-law}
-use Rattle.rust_model.specs.Run.{Run, done, panic, andThen}
+use Rattle.rust_model.specs.Run.{Run, done, panic, andThen, Build, index}
 use Rattle.rust_model.specs.Building.{Assembler}
 use Rattle.rust_model.specs.Sections.{AsmSection, Mark, Ops, Data, MarkRef, iterSections}
 use Rattle.rust_model.specs.Assemble.{Converged, ok, refHasTooSmallSetSize, converge, Assembled, assembled, tooSmallSetSize, emitFrom, emission, assemble}
 use Rattle.rust_model.specs.Demand2.{seen, sectionsOf, Assembles, SameCode, SameSection, SameAssembly}
 use Rattle.rust_model.proofs.Spans.{Spans}
-use Rattle.rust_model.proofs.Steps.{MarksIn}
+use Rattle.rust_model.proofs.Steps.{index-done, MarksIn}
 use Rattle.rust_model.proofs.Offsets.{EveryMap, need, rustSettling, converge-same}
 use Rattle.rust_model.proofs.Lent.{AlikeAt, Alike, Uses, value-alike, SameSettling, uses-placed, settle-alike}
 use Rattle.rust_model.proofs.Emission.{Ready, emit-same, emit-panic}
@@ -134,7 +134,7 @@ at-all Q (s ∷ ss) h (suc i) l = at-all Q ss (h .1) i (omega arith)
 -- ---- assembly
 
 module _
-    (a : Assembler) (st : Store) (spans : Spans a) (undamaged : Undamaged wordsPerSection st) (decoded : decode wordsPerSection st ≡ sectionsOf a)
+    (build : Build) (a : Assembler) (st : Store) (spans : Spans a) (undamaged : Undamaged wordsPerSection st) (decoded : decode wordsPerSection st ≡ sectionsOf a)
     (lent own : ℕ) (given : Assembles a lent own) (before result : List ℕ) (position : ℕ)
   where
     -- the sections
@@ -171,9 +171,9 @@ module _
     refuses r s = outcome-refused wordsPerSection st lent result position r (answers ∙ answer-law lent ss (refused r) .1 s)
 
     -- the Rust after its offsets have converged
-    converged : (c : Run Converged) → rustSettling (a .bytes) (settle own ss) ≡ c → assemble own a before ≡ andThen c (emission a before)
+    converged : (c : Run Converged) → rustSettling (settle own ss) ≡ c → assemble build own a before ≡ andThen c (emission a before)
     unfolding assemble
-    converged c e = ap (λ (x : Run Converged). andThen x (emission a before)) (converge-same (a .bytes) own rs spans in-own small ∙ e)
+    converged c e = ap (λ (x : Run Converged). andThen x (emission a before)) (converge-same build (a .bytes) own rs spans in-own small ∙ e)
 
     -- ---- settled by both
 
@@ -195,13 +195,13 @@ module _
       code = codeOf (entry t) ss
 
       -- no delta is backward: the Rust appends the code, and ours is written where it fits
-      forward : Never ss (backwardAt t ss) → SameAssembly a before result position ours (assemble own a before)
+      forward : Never ss (backwardAt t ss) → SameAssembly a before result position ours (assemble build own a before)
       forward never =
           let rust : emitFrom (a .bytes) T rs before ≡ done (before ++ codeOf (entry T) ss) =
           emit-same (a .bytes) T rs before spans in-map (still-ready T ss 0 e (own-still .1))
           (all-at (λ s. refers (backwardBy T) s ≡ false) ss (λ i l. backward-at i l ∙ never i l)) in
-          let is : assemble own a before ≡ done (assembled T (before ++ codeOf (entry T) ss)) =
-          converged (done (ok T)) (ap (rustSettling (a .bytes)) byOwn) ∙ ap (λ (x : Run (List ℕ)). andThen x (λ result′. done (assembled T result′))) rust in
+          let is : assemble build own a before ≡ done (assembled T (before ++ codeOf (entry T) ss)) =
+          converged (done (ok T)) (ap rustSettling byOwn) ∙ ap (λ (x : Run (List ℕ)). andThen x (λ result′. done (assembled T result′))) rust in
           let out : settleAnswer wordsPerSection lent st ≡ laidOut t e′ k′ =
           answers ∙ answer-law lent ss (laidOut t e′ k′) .1 (sound, settle-law lent ss (settled t e′ k′) .0 byLent, never) in
           let long : length code ≡ e′ = subst (λ (l : List Section). length (codeOf (entry t) l) ≡ e′) decoded (laid wordsPerSection lent st t e′ k′ out .codeLong) in
@@ -214,41 +214,41 @@ module _
             passes = k′;
             reply = λ fits. ap (λ (o : Outcome). o .reply) (ours-is fits) ∙ ap (λ (x : ℕ). written x k′) (sym long);
             wrote = λ fits. ap (λ (o : Outcome). o .result) (ours-is fits) ∙ ap (λ (l : List Section). over result position (codeOf (entry t) l)) decoded;
-            offsets = λ fits m p. ap (λ (o : Outcome). entry (o .table) m) (ours-is fits) ∙ sym (alike m p .same);
+            offsets = λ fits m p. index-done T m (alike m p .first) ∙ ap done (alike m p .same ∙ sym (ap (λ (o : Outcome). entry (o .table) m) (ours-is fits)));
           })
 
       -- some delta is backward: the Rust panics, and ours is 12
-      backward : (i : ℕ) → IsFirst ss (backwardAt t ss) i → SameAssembly a before result position ours (assemble own a before)
+      backward : (i : ℕ) → IsFirst ss (backwardAt t ss) i → SameAssembly a before result position ours (assemble build own a before)
       backward i first =
-          let is : assemble own a before ≡ panic =
-          converged (done (ok T)) (ap (rustSettling (a .bytes)) byOwn)
+          let is : assemble build own a before ≡ panic =
+          converged (done (ok T)) (ap rustSettling byOwn)
           ∙ ap (λ (x : Run (List ℕ)). andThen x (λ result′. done (assembled T result′))) (emit-panic (a .bytes) T rs before i in-map (first .0) (backward-at i (first .0) ∙ first .1)) in
           let says : Says lent ss (refused (Backward i k′)) = (t, e′, sound, settle-law lent ss (settled t e′ k′) .0 byLent, first) in
           subst (SameAssembly a before result position ours) (sym is) (i, k′, inr (ap (λ (o : Outcome). o .reply) (refuses (Backward i k′) says)))
 
-      settled-same : SameAssembly a before result position ours (assemble own a before)
+      settled-same : SameAssembly a before result position ours (assemble build own a before)
       settled-same = go (first-or-never ss (backwardAt t ss))
         where
-          go : ((i : ℕ) × IsFirst ss (backwardAt t ss) i) ⊎ Never ss (backwardAt t ss) → SameAssembly a before result position ours (assemble own a before)
+          go : ((i : ℕ) × IsFirst ss (backwardAt t ss) i) ⊎ Never ss (backwardAt t ss) → SameAssembly a before result position ours (assemble build own a before)
           go (inl b) = backward (b .0) (b .1)
           go (inr n) = forward n
 
     -- ---- what both come to
 
-    pub assembly-same : SameAssembly a before result position ours (assemble own a before)
+    pub assembly-same : SameAssembly a before result position ours (assemble build own a before)
     assembly-same = go (settle own ss) refl (settle lent ss) refl (settle-alike own lent ss (given .marksPlaced) (given .grown) (below-length lent ss (given .inTable)))
       where
-        go : (x : Settling) → settle own ss ≡ x → (y : Settling) → settle lent ss ≡ y → SameSettling (placed ss) x y → SameAssembly a before result position ours (assemble own a before)
+        go : (x : Settling) → settle own ss ≡ x → (y : Settling) → settle lent ss ≡ y → SameSettling (placed ss) x y → SameAssembly a before result position ours (assemble build own a before)
         go (settled T e k) p (settled t e′ k′) q s = settled-same T t e e′ k k′ p q (s .2)
         go (settled T e k) p (narrowAt j k′) q s = absurd s
         go (settled T e k) p unsettled q s = absurd s
         go (narrowAt i k) p (settled t e′ k′) q s = absurd s
         go (narrowAt i k) p (narrowAt j k′) q s =
-            subst (SameAssembly a before result position ours) (sym (converged (done (refHasTooSmallSetSize i)) (ap (rustSettling (a .bytes)) p)))
+            subst (SameAssembly a before result position ours) (sym (converged (done (refHasTooSmallSetSize i)) (ap rustSettling p)))
             (k′, ap (λ (o : Outcome). o .reply) (refuses (TooNarrow j k′) (sound, settle-law lent ss (narrowAt j k′) .0 q)) ∙ ap (λ (x : ℕ). reply.refused tooNarrow x k′) (sym (s .0)))
         go (narrowAt i k) p unsettled q s = absurd s
         go unsettled p (settled t e′ k′) q s = absurd s
         go unsettled p (narrowAt j k′) q s = absurd s
         go unsettled p unsettled q s =
-            subst (SameAssembly a before result position ours) (sym (converged panic (ap (rustSettling (a .bytes)) p)))
+            subst (SameAssembly a before result position ours) (sym (converged panic (ap rustSettling p)))
             (0, 1024, inl (ap (λ (o : Outcome). o .reply) (refuses Unsettled (sound, settle-law lent ss unsettled .0 q))))

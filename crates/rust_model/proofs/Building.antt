@@ -23,7 +23,7 @@ use Rattle.store_view.proofs.Added.{BytesRoom, added-apart}
 use Rattle.store_view.proofs.Refusals.{push-answers, stored-added}
 use Rattle.store_view.proofs.Calls.{large-same, call-kept, call-accepted, emptied-undamaged, emptied-decode}
 use Rattle.settling.proofs.Sections.{decode-count}
-use Rattle.rust_model.specs.Run.{done}
+use Rattle.rust_model.specs.Run.{done, Build}
 use Rattle.rust_model.specs.Building.{Assembler, empty, call, calls}
 use Rattle.rust_model.specs.Sections.{fromStored, iterSections}
 use Rattle.rust_model.specs.Demand2.{seen, sectionsOf, Fits, marksWithin, AlwaysFits, Builds, opened, built, SameStore}
@@ -107,7 +107,7 @@ module _ (bs words : List ℕ) (st : Store) (a a′ : Assembler) (p : Push) (sam
 
 -- ---- any call, and lists of them
 
-module _ (bs words : List ℕ) where
+module _ (build : Build) (bs words : List ℕ) where
   -- the empty store
   same-empty : (st : Store) → length (st .bytes) ≡ length bs → length (st .words) ≡ length words → Same bs words (emptied st) empty
   same-empty st b w =
@@ -120,27 +120,27 @@ module _ (bs words : List ℕ) where
         kept = record { spans = tt; last = tt };
       }
 
-  call-same : (c : Call) (st : Store) (a a′ : Assembler) → Same bs words st a → marksWithin c → call c a ≡ done a′ → Fits bs words a′
+  call-same : (c : Call) (st : Store) (a a′ : Assembler) → Same bs words st a → marksWithin c → call build c a ≡ done a′ → Fits bs words a′
       → IsStored (callReply wordsPerSection c st) × Same bs words (callAfter wordsPerSection c st) a′
   call-same (push p) st a a′ s m r f =
-      let q : Pushed p a a′ = push-same p a a′ (s .kept) r in
+      let q : Pushed p a a′ = push-same build p a a′ (s .kept) r in
       (subst IsStored (sym (reply bs words st a a′ p s q f m)) tt, same-after bs words st a a′ p s q f m)
   call-same clear st a a′ s m r f = (tt, subst (Same bs words (emptied st)) (done-inj r) (same-empty st (s .bytesLent) (s .wordsLent)))
 
-  run-same : (cs : List Call) (st : Store) (a a′ : Assembler) → Same bs words st a → calls cs a ≡ done a′ → AlwaysFits bs words cs a
+  run-same : (cs : List Call) (st : Store) (a a′ : Assembler) → Same bs words st a → calls build cs a ≡ done a′ → AlwaysFits build bs words cs a
       → EveryStored (runReplies wordsPerSection cs st) × Same bs words (runAfter wordsPerSection cs st) a′
   unfolding calls AlwaysFits runReplies runAfter
   run-same [] st a a′ s r f = (tt, subst (Same bs words st) (done-inj r) s)
   run-same (c ∷ cs) st a a′ s r f =
-      let r₁ = andThen-done (call c a) (calls cs) a′ r in
+      let r₁ = andThen-done (call build c a) (calls build cs) a′ r in
       let g = f .1 (r₁ .0) (r₁ .1) in
       let one = call-same c st a (r₁ .0) s (f .0) (r₁ .1) (g .0) in
       let rest = run-same cs (callAfter wordsPerSection c st) (r₁ .0) a′ (one .1) (r₁ .2) (g .1) in
       ((one .0, rest .0), rest .1)
 
 -- our calls are all stored and come to the Rust's list; its spans are within its bytes, and our store is undamaged
-pub calls-same : (bs words : List ℕ) (cs : List Call) (a : Assembler) → Builds bs words cs a → SameStore bs words cs a × Spans a × Undamaged wordsPerSection (built bs words cs)
-calls-same bs words cs a h =
-    let r = run-same bs words cs (opened bs words) empty a (same-empty bs words (opened bs words) refl refl) (h .noPanic) (h .fits) in
+pub calls-same : (build : Build) (bs words : List ℕ) (cs : List Call) (a : Assembler) → Builds build bs words cs a → SameStore bs words cs a × Spans a × Undamaged wordsPerSection (built bs words cs)
+calls-same build bs words cs a h =
+    let r = run-same build bs words cs (opened bs words) empty a (same-empty build bs words (opened bs words) refl refl) (h .noPanic) (h .fits) in
     let s : Same bs words (built bs words cs) a = r .1 in
     (record { accepted = r .0; decoded = s .decoded; bytesCount = s .count; sectionsCount = same-count bs words (built bs words cs) a s }, s .kept .spans, s .undamaged)

@@ -8,8 +8,8 @@ use lib.Dec.{eqb}
 use borrow.Author.Tests.{eqb-true}
 use Rattle.records.specs.Sections.{Section, mark, ops, bytes, reference}
 use Rattle.store.specs.Lists.{addedAfter, addedTo}
-use Rattle.rust_model.specs.Run.{Run, done, panic, andThen, lenIdx, pushed}
-use Rattle.rust_model.specs.Building.{Span, StoredAsmSection, Ops, Data, Assembler, Last, extendOps, newOps, opByteAfter, opByte, opBytes, extendData, newData, dataAfter, pushedData}
+use Rattle.rust_model.specs.Run.{Run, done, panic, andThen, Build, debug, release, lenIdx, pushed}
+use Rattle.rust_model.specs.Building.{Span, StoredAsmSection, Ops, Data, Assembler, Last, extendOps, newOps, opByteAfter, opByte, opBytes, longerData, extendData, newData, dataAfter, pushedData}
 use Rattle.rust_model.specs.Sections.{fromStored}
 use Rattle.rust_model.specs.Demand2.{sectionsOf}
 use Rattle.rust_model.proofs.Runs.{done-inj, andThen-done, cond-done, lenIdx-done, pushed-done}
@@ -105,14 +105,22 @@ op-bytes a a′ b (c ∷ cs) k r =
 -- ---- data
 
 -- they join a last Data section
-extend-data : (a a′ : Assembler) (before : List StoredAsmSection) (span : Span) (more : List ℕ) → a .sections ≡ before ++ (Data span ∷ []) → Kept a
-    → extendData before span (a .bytes) more ≡ done a′ → Adds (bytes more) a a′
-unfolding extendData
-extend-data a a′ before span more e k r =
+longer-data : (a a′ : Assembler) (before : List StoredAsmSection) (span : Span) (more : List ℕ) → a .sections ≡ before ++ (Data span ∷ []) → Kept a
+    → longerData before span (a .bytes) more ≡ done a′ → Adds (bytes more) a a′
+unfolding longerData
+longer-data a a′ before span more e k r =
     let new : ℕ → Assembler = λ end. record { bytes = a .bytes ++ more; sections = before ++ (Data (record { start = span .start; end = end }) ∷ []) } in
     let r₁ = andThen-done (lenIdx (a .bytes ++ more)) (λ end. done (new end)) a′ r in
     let at : span .end ≡ length (a .bytes) = end-last (a .bytes) (map fromStored before) (fromStored (Data span)) (subst (LastAtEnd (a .bytes)) (ap (map fromStored) e ∙ map-append fromStored before (Data span ∷ [])) (k .last)) in
     subst (Adds (bytes more) a) (ap new (lenIdx-done (a .bytes ++ more) (r₁ .0) (r₁ .1)) ∙ done-inj (r₁ .2)) (adds-joined asData (a .bytes) more (a .sections) before span e at k)
+
+-- in either build
+extend-data : (build : Build) (a a′ : Assembler) (before : List StoredAsmSection) (span : Span) (more : List ℕ) → a .sections ≡ before ++ (Data span ∷ []) → Kept a
+    → extendData build before span (a .bytes) more ≡ done a′ → Adds (bytes more) a a′
+unfolding extendData
+extend-data debug a a′ before span more e k r =
+    longer-data a a′ before span more e k (cond-done (eqb (span .end) (length (a .bytes))) (longerData before span (a .bytes) more) a′ r .1)
+extend-data release a a′ before span more e k r = longer-data a a′ before span more e k r
 
 -- or are a section of their own
 new-data : (a a′ : Assembler) (more : List ℕ) → addedTo (sectionsOf a) (bytes more) ≡ sectionsOf a ++ (bytes more ∷ []) → Kept a → newData a more ≡ done a′ → Adds (bytes more) a a′
@@ -126,12 +134,12 @@ new-data a a′ more p k r =
     subst (Adds (bytes more) a) (ap (λ (x : ℕ). new x (length (a .bytes ++ more))) start ∙ ap (new (r₁ .0)) end ∙ done-inj (r₂ .2))
     (adds-new asData (a .bytes) more (a .sections) p k)
 
-data-after : (a a′ : Assembler) (more : List ℕ) {l : Last} → LastIs (a .sections) l → Kept a → dataAfter l a more ≡ done a′ → Adds (bytes more) a a′
-data-after a a′ more (is-ops before span e) k r = new-data a a′ more (apart (a .bytes) (a .sections) before (Ops span) (bytes more) e refl) k r
-data-after a a′ more (is-data before span e) k r = extend-data a a′ before span more e k r
-data-after a a′ more (is-other h) k r = new-data a a′ more (h (a .bytes) (bytes more)) k r
+data-after : (build : Build) (a a′ : Assembler) (more : List ℕ) {l : Last} → LastIs (a .sections) l → Kept a → dataAfter build l a more ≡ done a′ → Adds (bytes more) a a′
+data-after build a a′ more (is-ops before span e) k r = new-data a a′ more (apart (a .bytes) (a .sections) before (Ops span) (bytes more) e refl) k r
+data-after build a a′ more (is-data before span e) k r = extend-data build a a′ before span more e k r
+data-after build a a′ more (is-other h) k r = new-data a a′ more (h (a .bytes) (bytes more)) k r
 
 -- `push_data`
-pub push-data : (a a′ : Assembler) (more : List ℕ) → Kept a → pushedData a more ≡ done a′ → Adds (bytes more) a a′
+pub push-data : (build : Build) (a a′ : Assembler) (more : List ℕ) → Kept a → pushedData build a more ≡ done a′ → Adds (bytes more) a a′
 unfolding pushedData
-push-data a a′ more k r = data-after a a′ more (last-is (a .sections)) k r
+push-data build a a′ more k r = data-after build a a′ more (last-is (a .sections)) k r

@@ -2,17 +2,18 @@
 use mathlib.Core.List.{List}
 use Prim.Native.Nat.{ℕ}
 use Rattle.store.specs.Calls.{Call}
+use Rattle.rust_model.specs.Run.{Build}
 use Rattle.rust_model.specs.Building.{Assembler}
 use Rattle.rust_model.specs.Demand2.{Builds, built, Demand2}
 use Rattle.rust_model.proofs.Building.{calls-same}
 use Rattle.rust_model.proofs.Assembly.{assembly-same}
 use Rattle.rust_model.proofs.Listing.{listing-same}
 
-pub demand-2 : (bs words : List ℕ) (cs : List Call) (a : Assembler) → Builds bs words cs a → Demand2 bs words cs a
-demand-2 bs words cs a given =
-    let same = calls-same bs words cs a given in
+pub demand-2 : (build : Build) (bs words : List ℕ) (cs : List Call) (a : Assembler) → Builds build bs words cs a → Demand2 build bs words cs a
+demand-2 build bs words cs a given =
+    let same = calls-same build bs words cs a given in
     record {
       store = same .0;
-      assembly = λ lent own premises before result position. assembly-same a (built bs words cs) (same .1) (same .2) (same .0 .decoded) lent own premises before result position;
+      assembly = λ lent own premises before result position. assembly-same build a (built bs words cs) (same .1) (same .2) (same .0 .decoded) lent own premises before result position;
       listing = listing-same a (built bs words cs) (same .1) (same .2) (same .0 .decoded);
     }

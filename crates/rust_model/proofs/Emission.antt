@@ -22,14 +22,14 @@ use Rattle.layout.specs.Passes.{entry, valueBy}
 use Rattle.layout.specs.Conditions.{sectionAt, refers, backwardBy, backwardAt}
 use Rattle.layout.proofs.Walks.{All}
 use Rattle.emission.specs.Emission.{byteCount, isPushZero, opcode, referenceBytes, sectionBytes, parts, inARow, codeOf}
-use Rattle.rust_model.specs.Run.{Run, done, panic, andThen, subU32}
+use Rattle.rust_model.specs.Run.{Run, done, panic, andThen, checkedSub}
 use Rattle.rust_model.specs.Building.{leBytes}
 use Rattle.rust_model.specs.Sections.{AsmSection, Mark, Ops, Data, MarkRef, asU32, bytesToHold}
 use Rattle.rust_model.specs.Assemble.{emitValue, unwrapOr, isPush0, isInvalid, emitOp, emitBytes, emitRef, emitSection, emitFrom}
 use Rattle.rust_model.specs.Demand2.{seen}
 use Rattle.rust_model.proofs.Spans.{SectionIn, EveryIn}
 use Rattle.rust_model.proofs.Minimal.{low-bytes}
-use Rattle.rust_model.proofs.Steps.{sub-done, index-done, range-done, as-bytes, held-same, MarksIn}
+use Rattle.rust_model.proofs.Steps.{checked-done, index-done, range-done, as-bytes, held-same, MarksIn}
 use Rattle.rust_model.proofs.Offsets.{InMap, EveryMap}
 
 -- ---- the bytes of a reference
@@ -75,11 +75,11 @@ emit-value : (t : List ℕ) (m : MarkReference) → MarksIn (length t) m → bac
 emit-value t (Direct m) h b = index-done t (m .0) h
 emit-value t (Delta d) h b =
     rw (index-done t (d .end .0) (h .1), index-done t (d .start .0) (h .0))
-    (sub-done (entry t (d .end .0)) (entry t (d .start .0)) (ltb-false (entry t (d .end .0)) (entry t (d .start .0)) b))
+    (checked-done (entry t (d .end .0)) (entry t (d .start .0)) (ltb-false (entry t (d .end .0)) (entry t (d .start .0)) b))
 
 -- a backward delta panics
 emit-backward : (t : List ℕ) (m : MarkReference) → MarksIn (length t) m → backwardBy t m ≡ true → emitValue t m ≡ panic
-unfolding subU32
+unfolding checkedSub
 emit-backward t (Direct m) h b = absurd (false≢true b)
 emit-backward t (Delta d) h b =
     rw (index-done t (d .end .0) (h .1), index-done t (d .start .0) (h .0), lt-leb (entry t (d .start .0)) (entry t (d .end .0)) (ltb-true (entry t (d .end .0)) (entry t (d .start .0)) b))

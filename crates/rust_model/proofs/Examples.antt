@@ -26,7 +26,7 @@ use Rattle.opcodes.specs.Names.{opName, lookup, opNames}
 use Rattle.assembler.specs.Assemble.{Outcome, written, refused, assembly}
 use Rattle.listing.specs.Answer.{listed, listingReply, listingBuffer}
 use Rattle.hand.proofs.Lines.{placing, op, «data», ref, far}
-use Rattle.rust_model.specs.Run.{Run, done, panic, addU32, subU32, index, indexMut, range, lenIdx, pushed}
+use Rattle.rust_model.specs.Run.{Run, done, panic, Build, release, addU32, subU32, checkedSub, index, indexMut, range, lenIdx, pushed}
 use Rattle.rust_model.specs.Building.{StoredAsmSection, Mark, Ops, Data, DirectMarkRef, Size2RawDeltaRef, Assembler, empty, leBytes, lastOf, lastMut, extendOps, newOps, opByte, extendData, newData, pushedData, call, calls}
 use Rattle.rust_model.specs.Sections.{bytesToHold, saturatingSub}
 use Rattle.rust_model.specs.Assemble.{startFrom, walkFrom, iterate, converge, emitBytes, emitRef, emitFrom, assembled, tooSmallSetSize, assemble}
@@ -53,9 +53,9 @@ unfoldable fitsAfter : (Assembler → Bool) → Run Assembler → Bool
 fitsAfter test (done a) = test a
 fitsAfter test panic = true
 
-unfoldable fitsFrom : List ℕ → List ℕ → List Call → Assembler → Bool
-fitsFrom bs words [] a = true
-fitsFrom bs words (c ∷ cs) a = isWithin c && fitsAfter (λ a′. fitsNow bs words a′ && fitsFrom bs words cs a′) (call c a)
+unfoldable fitsFrom : Build → List ℕ → List ℕ → List Call → Assembler → Bool
+fitsFrom build bs words [] a = true
+fitsFrom build bs words (c ∷ cs) a = isWithin c && fitsAfter (λ a′. fitsNow bs words a′ && fitsFrom build bs words cs a′) (call build c a)
 
 -- what the test tells of a store
 now-law : (bs words : List ℕ) (a : Assembler) → fitsNow bs words a ≡ true → Fits bs words a
@@ -72,17 +72,17 @@ within-law (push p) e = not-true (hasLargeMark p) e
 within-law clear e = tt
 
 -- and of a list of calls
-fits-law : (bs words : List ℕ) (cs : List Call) (a : Assembler) → fitsFrom bs words cs a ≡ true → AlwaysFits bs words cs a
+fits-law : (build : Build) (bs words : List ℕ) (cs : List Call) (a : Assembler) → fitsFrom build bs words cs a ≡ true → AlwaysFits build bs words cs a
 unfolding fitsFrom fitsAfter AlwaysFits
-fits-law bs words [] a e = tt
-fits-law bs words (c ∷ cs) a e =
+fits-law build bs words [] a e = tt
+fits-law build bs words (c ∷ cs) a e =
     let p = and-true (isWithin c) _ .0 e in (
       within-law c (p .0),
       λ a′ q.
-          let here : fitsAfter (λ x. fitsNow bs words x && fitsFrom bs words cs x) (done a′) ≡ true =
-          subst (λ (r : Run Assembler). fitsAfter (λ x. fitsNow bs words x && fitsFrom bs words cs x) r ≡ true) q (p .1) in
-          let both = and-true (fitsNow bs words a′) (fitsFrom bs words cs a′) .0 here in
-          (now-law bs words a′ (both .0), fits-law bs words cs a′ (both .1)),
+          let here : fitsAfter (λ x. fitsNow bs words x && fitsFrom build bs words cs x) (done a′) ≡ true =
+          subst (λ (r : Run Assembler). fitsAfter (λ x. fitsNow bs words x && fitsFrom build bs words cs x) r ≡ true) q (p .1) in
+          let both = and-true (fitsNow bs words a′) (fitsFrom build bs words cs a′) .0 here in
+          (now-law bs words a′ (both .0), fits-law build bs words cs a′ (both .1)),
     )
 
 -- the list of sections has none of the conditions for 7, 8 and 9, by either table
@@ -113,9 +113,9 @@ farBytes = replicate 254 0
 abbrev farWords : List ℕ
 farWords = replicate 9 0
 
-far-builds : (size : SetSize) → Builds farBytes farWords (far size 254) (farStore size)
+far-builds : (build : Build) (size : SetSize) → Builds build farBytes farWords (far size 254) (farStore size)
 unfolding calls pushedData lastMut lastOf newData lenIdx fitsFrom fitsAfter fitsNow isWithin
-far-builds size = record { noPanic = refl; fits = fits-law farBytes farWords (far size 254) empty refl }
+far-builds build size = record { noPanic = refl; fits = fits-law build farBytes farWords (far size 254) empty refl }
 
 -- by a lent table of one entry, and by a table of the Rust's first length, 128
 far-assembles : (size : SetSize) → Assembles (farStore size) 1 128
@@ -123,26 +123,26 @@ unfolding firstShort shortAt firstUnplaced unplacedAt firstApart apartAt leastFr
 far-assembles size = assembles (farStore size) 1 128 refl refl refl refl
 
 -- the Rust's own answer to line 7: 61 01 01 and the data, the mark at 257
-rust-7 : assemble 128 (farStore Unsized) [] ≡ done (assembled (257 ∷ replicate 127 0) (0x61 ∷ 0x01 ∷ 0x01 ∷ replicate 254 0))
+rust-7 : (build : Build) → assemble build 128 (farStore Unsized) [] ≡ done (assembled (257 ∷ replicate 127 0) (0x61 ∷ 0x01 ∷ 0x01 ∷ replicate 254 0))
 unfolding assemble converge startFrom walkFrom iterate emitFrom emitRef emitBytes index indexMut addU32 subU32 range bytesToHold leBytes
-rust-7 = refl
+rust-7 build = refl
 
 -- and to line 8: section 0
-rust-8 : assemble 128 (farStore (Sized S1)) [] ≡ done (tooSmallSetSize 0)
+rust-8 : (build : Build) → assemble build 128 (farStore (Sized S1)) [] ≡ done (tooSmallSetSize 0)
 unfolding assemble converge startFrom walkFrom iterate index indexMut addU32 subU32 bytesToHold
-rust-8 = refl
+rust-8 build = refl
 
 -- what ours comes to on the same calls, a result lent from position 0
 abbrev farOurs : SetSize → List ℕ → Outcome
 farOurs size result = assembly wordsPerSection (built farBytes farWords (far size 254)) 1 result 0
 
-far-same : (size : SetSize) (result : List ℕ) → SameAssembly (farStore size) [] result 0 (farOurs size result) (assemble 128 (farStore size) [])
-far-same size result = demand-2 farBytes farWords (far size 254) (farStore size) (far-builds size) .assembly 1 128 (far-assembles size) [] result 0
+far-same : (build : Build) (size : SetSize) (result : List ℕ) → SameAssembly (farStore size) [] result 0 (farOurs size result) (assemble build 128 (farStore size) [])
+far-same build size result = demand-2 build farBytes farWords (far size 254) (farStore size) (far-builds build size) .assembly 1 128 (far-assembles size) [] result 0
 
 -- the code that was appended to nothing, as ours wrote it
 carried : (a : Assembler) (table code result : List ℕ) (ours : Outcome) → SameAssembly a [] result 0 ours (done (assembled table code)) → length code ≤ length result
     → (passes : ℕ) × (ours .reply ≡ written (length code) passes) × (ours .result ≡ over result 0 code)
-    × ((m : ℕ) → placed (sectionsOf a) m ≡ true → entry (ours .table) m ≡ entry table m)
+    × ((m : ℕ) → placed (sectionsOf a) m ≡ true → index table m ≡ done (entry (ours .table) m))
 carried a table code result ours same fits =
     let is : code ≡ same .code = same .appended in
     let room : 0 + length (same .code) ≤ length result = omega (arith, ap (λ (l : List ℕ). length l) is) in (
@@ -156,15 +156,15 @@ carried a table code result ours same fits =
 pub line-7 : (result : List ℕ) → 257 ≤ length result
     → (passes : ℕ) × (farOurs Unsized result .reply ≡ written 257 passes) × (farOurs Unsized result .result ≡ over result 0 (0x61 ∷ 0x01 ∷ 0x01 ∷ replicate 254 0))
     × (entry (farOurs Unsized result .table) 0 ≡ 257)
-unfolding placed
+unfolding placed index
 line-7 result fits =
     let q = carried (farStore Unsized) (257 ∷ replicate 127 0) (0x61 ∷ 0x01 ∷ 0x01 ∷ replicate 254 0) result (farOurs Unsized result)
-    (subst (SameAssembly (farStore Unsized) [] result 0 (farOurs Unsized result)) rust-7 (far-same Unsized result)) fits in
-    (q .0, q .1, q .2, q .3 0 refl)
+    (subst (SameAssembly (farStore Unsized) [] result 0 (farOurs Unsized result)) (rust-7 release) (far-same release Unsized result)) fits in
+    (q .0, q .1, q .2, sym (done-inj (q .3 0 refl)))
 
 -- line 8: 'As 7, size 1: number 10, section 0'
 pub line-8 : (result : List ℕ) → (passes : ℕ) × (farOurs (Sized S1) result .reply ≡ refused tooNarrow 0 passes)
-line-8 result = subst (SameAssembly (farStore (Sized S1)) [] result 0 (farOurs (Sized S1) result)) rust-8 (far-same (Sized S1) result)
+line-8 result = subst (SameAssembly (farStore (Sized S1)) [] result 0 (farOurs (Sized S1) result)) (rust-8 release) (far-same release (Sized S1) result)
 
 -- ---- line 12: the calls of the program `show`
 
@@ -203,9 +203,9 @@ showBytes = replicate 5 0
 abbrev showWords : List ℕ
 showWords = replicate 24 0
 
-show-builds : Builds showBytes showWords showCalls showStore
+show-builds : (build : Build) → Builds build showBytes showWords showCalls showStore
 unfolding calls opByte pushedData lastMut lastOf newOps newData lenIdx pushed fitsFrom fitsAfter fitsNow isWithin
-show-builds = record { noPanic = refl; fits = fits-law showBytes showWords showCalls empty refl }
+show-builds build = record { noPanic = refl; fits = fits-law build showBytes showWords showCalls empty refl }
 
 show-assembles : Assembles showStore 2 128
 unfolding firstShort shortAt firstUnplaced unplacedAt firstApart apartAt leastFrom placed someBytes
@@ -215,9 +215,9 @@ show-assembles = assembles showStore 2 128 refl refl refl refl
 abbrev showCode : List ℕ
 showCode = 0x5b ∷ 0x60 ∷ 0x04 ∷ 0x56 ∷ 0x5b ∷ 0xaa ∷ 0xbb ∷ 0x00 ∷ 0x04 ∷ []
 
-rust-12 : assemble 128 showStore [] ≡ done (assembled (0 ∷ 4 ∷ replicate 126 0) showCode)
-unfolding assemble converge startFrom walkFrom iterate emitFrom emitRef emitBytes index indexMut addU32 subU32 range bytesToHold leBytes saturatingSub
-rust-12 = refl
+rust-12 : (build : Build) → assemble build 128 showStore [] ≡ done (assembled (0 ∷ 4 ∷ replicate 126 0) showCode)
+unfolding assemble converge startFrom walkFrom iterate emitFrom emitRef emitBytes index indexMut addU32 subU32 checkedSub range bytesToHold leBytes saturatingSub
+rust-12 build = refl
 
 abbrev showOurs : List ℕ → Outcome
 showOurs result = assembly wordsPerSection (built showBytes showWords showCalls) 2 result 0
@@ -242,19 +242,43 @@ rust-text-12 = refl
 pub line-12 : (result : List ℕ) → 9 ≤ length result
     → (passes : ℕ) × (showOurs result .reply ≡ written 9 passes) × (showOurs result .result ≡ over result 0 showCode)
     × (entry (showOurs result .table) 0 ≡ 0) × (entry (showOurs result .table) 1 ≡ 4)
-unfolding placed
+unfolding placed index
 line-12 result fits =
-    let same = demand-2 showBytes showWords showCalls showStore show-builds .assembly 2 128 show-assembles [] result 0 in
-    let q = carried showStore (0 ∷ 4 ∷ replicate 126 0) showCode result (showOurs result) (subst (SameAssembly showStore [] result 0 (showOurs result)) rust-12 same) fits in
-    (q .0, q .1, q .2, q .3 0 refl, q .3 1 refl)
+    let same = demand-2 release showBytes showWords showCalls showStore (show-builds release) .assembly 2 128 show-assembles [] result 0 in
+    let q = carried showStore (0 ∷ 4 ∷ replicate 126 0) showCode result (showOurs result) (subst (SameAssembly showStore [] result 0 (showOurs result)) (rust-12 release) same) fits in
+    (q .0, q .1, q .2, sym (done-inj (q .3 0 refl)), sym (done-inj (q .3 1 refl)))
 
 -- and the listing
 pub line-12-text : (buffer : List ℕ) → length showText ≤ length buffer
     → (listingReply wordsPerSection (built showBytes showWords showCalls) buffer ≡ listed (length showText))
     × (listingBuffer wordsPerSection (built showBytes showWords showCalls) buffer ≡ showText ++ drop (length showText) buffer)
 line-12-text buffer fits =
-    let same = demand-2 showBytes showWords showCalls showStore show-builds .listing in
+    let same = demand-2 release showBytes showWords showCalls showStore (show-builds release) .listing in
     let is : same .text ≡ showText = done-inj (sym (same .written) ∙ rust-text-12) in (
       subst (λ (t : List ℕ). length t ≤ length buffer → listingReply wordsPerSection (built showBytes showWords showCalls) buffer ≡ listed (length t)) is (same .reply buffer) fits,
       subst (λ (t : List ℕ). length t ≤ length buffer → listingBuffer wordsPerSection (built showBytes showWords showCalls) buffer ≡ t ++ drop (length t) buffer) is (same .holds buffer) fits,
     )
+
+-- ---- a reference behind a moved mark is sized by the mark's new offset
+
+-- raw ref 0 of size 1, pushed ref 1, 252 bytes, mark 0, raw ref 0 of size 1, 300 bytes, mark 1: the start has mark 0 at 254, and in the
+-- first walk the pushed reference takes three bytes, so mark 0 moves to 256, past what one byte holds. The reference before the mark has
+-- been sized by 254; the one behind it is too small.
+abbrev behindStore : Assembler
+behindStore =
+    record {
+      bytes = replicate 552 0;
+      sections =
+          DirectMarkRef 0 (Sized S1) false
+          ∷ DirectMarkRef 1 Unsized true
+          ∷ Data (record { start = 0; end = 252 })
+          ∷ Mark 0
+          ∷ DirectMarkRef 0 (Sized S1) false
+          ∷ Data (record { start = 252; end = 552 })
+          ∷ Mark 1
+          ∷ [];
+    }
+
+pub rust-behind : (build : Build) → assemble build 128 behindStore [] ≡ done (tooSmallSetSize 4)
+unfolding assemble converge startFrom walkFrom iterate index indexMut addU32 subU32 bytesToHold
+rust-behind build = refl

@@ -21,7 +21,7 @@ use Rattle.records.specs.Sections.{Section, mark, ops, bytes, reference}
 use Rattle.store.specs.Calls.{Push, pushMark, pushOpByte, pushSwap, pushDup, pushExchange, pushMinimalU256, pushMinimalU64, pushMinimalU32, pushData, pushReference, hasBadDepth, hasBadWord, exchangeOps, minimalPush, added}
 use Rattle.store.specs.Calls as store
 use Rattle.store.specs.Lists.{afterLast, addedAfter, addedTo}
-use Rattle.rust_model.specs.Run.{done, andThen}
+use Rattle.rust_model.specs.Run.{done, andThen, Build}
 use Rattle.rust_model.specs.Building.{Assembler, Mark, opByte, opBytes, swapOp, dupOp, swap, dup, exchange, minimal, u256, storedRef, pushCall}
 use Rattle.rust_model.specs.Sections.{MarkRef, fromStored}
 use Rattle.rust_model.specs.Demand2.{sectionsOf}
@@ -152,8 +152,8 @@ reference-last r (ops bs) = refl
 reference-last r (bytes bs) = refl
 reference-last r (reference q) = refl
 
-mark-pushed : (a a′ : Assembler) (m : ℕ) → Kept a → pushCall (pushMark m) a ≡ done a′ → Pushed (pushMark m) a a′
-mark-pushed a a′ m k r =
+mark-pushed : (build : Build) (a a′ : Assembler) (m : ℕ) → Kept a → pushCall build (pushMark m) a ≡ done a′ → Pushed (pushMark m) a a′
+mark-pushed build a a′ m k r =
     record {
       depth = refl;
       word = refl;
@@ -174,8 +174,8 @@ stored-ref (Delta span) (Sized S2) false = refl
 stored-ref (Delta span) (Sized S3) false = refl
 stored-ref (Delta span) (Sized S4) false = refl
 
-reference-pushed : (a a′ : Assembler) (x : AsmReference) → Kept a → pushCall (pushReference x) a ≡ done a′ → Pushed (pushReference x) a a′
-reference-pushed a a′ x k r =
+reference-pushed : (build : Build) (a a′ : Assembler) (x : AsmReference) → Kept a → pushCall build (pushReference x) a ≡ done a′ → Pushed (pushReference x) a a′
+reference-pushed build a a′ x k r =
     let e = stored-ref (x .«mark_ref») (x .«set_size») (x .pushed) in
     record {
       depth = refl;
@@ -185,14 +185,14 @@ reference-pushed a a′ x k r =
 
 -- ---- any of them
 
-pub push-same : (p : Push) (a a′ : Assembler) → Kept a → pushCall p a ≡ done a′ → Pushed p a a′
-push-same (pushMark m) a a′ k r = mark-pushed a a′ m k r
-push-same (pushOpByte b) a a′ k r = record { depth = refl; word = refl; adds = op-byte a a′ b k r }
-push-same (pushSwap d) a a′ k r = swap-pushed a a′ d k r
-push-same (pushDup d) a a′ k r = dup-pushed a a′ d k r
-push-same (pushExchange n m) a a′ k r = exchange-pushed a a′ n m k r
-push-same (pushMinimalU256 word) a a′ k r = word-pushed a a′ word k r
-push-same (pushMinimalU64 v) a a′ k r = record { depth = refl; word = refl; adds = minimal-adds a a′ v k r }
-push-same (pushMinimalU32 v) a a′ k r = record { depth = refl; word = refl; adds = minimal-adds a a′ v k r }
-push-same (pushData bs) a a′ k r = record { depth = refl; word = refl; adds = push-data a a′ bs k r }
-push-same (pushReference x) a a′ k r = reference-pushed a a′ x k r
+pub push-same : (build : Build) (p : Push) (a a′ : Assembler) → Kept a → pushCall build p a ≡ done a′ → Pushed p a a′
+push-same build (pushMark m) a a′ k r = mark-pushed build a a′ m k r
+push-same build (pushOpByte b) a a′ k r = record { depth = refl; word = refl; adds = op-byte a a′ b k r }
+push-same build (pushSwap d) a a′ k r = swap-pushed a a′ d k r
+push-same build (pushDup d) a a′ k r = dup-pushed a a′ d k r
+push-same build (pushExchange n m) a a′ k r = exchange-pushed a a′ n m k r
+push-same build (pushMinimalU256 word) a a′ k r = word-pushed a a′ word k r
+push-same build (pushMinimalU64 v) a a′ k r = record { depth = refl; word = refl; adds = minimal-adds a a′ v k r }
+push-same build (pushMinimalU32 v) a a′ k r = record { depth = refl; word = refl; adds = minimal-adds a a′ v k r }
+push-same build (pushData bs) a a′ k r = record { depth = refl; word = refl; adds = push-data build a a′ bs k r }
+push-same build (pushReference x) a a′ k r = reference-pushed build a a′ x k r

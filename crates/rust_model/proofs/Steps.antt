@@ -20,20 +20,24 @@ use Rattle.units.specs.declared.MarkReference.{MarkReference}
 use Rattle.units.specs.declared.MarkReference.the-variants.{Direct, Delta}
 use Rattle.store_view.proofs.Tests.{cond-true, cond-false}
 use Rattle.layout.specs.Passes.{entry, valueBy}
-use Rattle.rust_model.specs.Run.{Run, done, panic, andThen, addU32, subU32, index, indexMut, range}
+use Rattle.rust_model.specs.Run.{Run, done, panic, andThen, Build, addU32, subU32, checkedSub, index, indexMut, range}
 use Rattle.rust_model.specs.Building.{Span}
 use Rattle.rust_model.specs.Sections.{asU32, bytesToHold, minRefSize, saturatingSub, walkValue, refSizeFor}
 use Rattle.rust_model.proofs.Spans.{SpanIn}
 
 -- ---- steps that don't panic
 
-pub add-done : (a b : ℕ) → a + b < 4294967296 → addU32 a b ≡ done (a + b)
+pub add-done : (build : Build) (a b : ℕ) → a + b < 4294967296 → addU32 build a b ≡ done (a + b)
 unfolding addU32
-add-done a b h = cond-true (ltb (a + b) 4294967296) (done (a + b)) panic (lt-ltb _ _ h)
+add-done build a b h = rw (lt-ltb (a + b) 4294967296 h)
 
-pub sub-done : (a b : ℕ) → b ≤ a → subU32 a b ≡ done (a - b)
+sub-done : (build : Build) (a b : ℕ) → b ≤ a → subU32 build a b ≡ done (a - b)
 unfolding subU32
-sub-done a b h = cond-true (leb b a) (done (a - b)) panic (le-leb _ _ h)
+sub-done build a b h = rw (le-leb b a h)
+
+pub checked-done : (a b : ℕ) → b ≤ a → checkedSub a b ≡ done (a - b)
+unfolding checkedSub
+checked-done a b h = rw (le-leb b a h)
 
 pub index-done : (xs : List ℕ) (i : ℕ) → i < length xs → index xs i ≡ done (getD xs i 0)
 unfolding index
@@ -48,8 +52,8 @@ unfolding range
 range-done bs s h = rw (le-leb (s .start) (s .end) (h .ordered), le-leb (s .end) (length bs) (h .within))
 
 -- the length of a span is that of its bytes
-pub span-done : (bs : List ℕ) (s : Span) → SpanIn bs s → subU32 (s .end) (s .start) ≡ done (length (slice (s .start) (s .end) bs))
-span-done bs s h = sub-done (s .end) (s .start) (h .ordered) ∙ ap done (sym (length-slice (s .start) (s .end) bs (h .within)))
+pub span-done : (build : Build) (bs : List ℕ) (s : Span) → SpanIn bs s → subU32 build (s .end) (s .start) ≡ done (length (slice (s .start) (s .end) bs))
+span-done build bs s h = sub-done build (s .end) (s .start) (h .ordered) ∙ ap done (sym (length-slice (s .start) (s .end) bs (h .within)))
 
 -- ---- sizes
 

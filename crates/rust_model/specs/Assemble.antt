@@ -1,8 +1,8 @@
--- The Rust's `converge_mark_offsets` and `assemble`, written from lib.rs. The length of its offset table depends on its allocator: it is a
--- parameter, and every length is meant. A table that grows by zeros to its last length, and one that has that length from the start, hold
--- the same entries. Assumes nothing.
+-- The Rust's `converge_mark_offsets` and `assemble`, written from lib.rs. Its offset table has as many zeros as the hint says, or 128, and
+-- grows by zeros at each mark that it lacks, to a length that its allocator chooses. Here its last length is a parameter, any that is
+-- above the largest placed mark: a table that grows to it, and one that has it from the start, hold the same. Assumes nothing.
 use Prim.Native.Nat.{ℕ, zero, suc, _+_, _-_}
-use mathlib.Core.Bool.{Bool, true, false, cond, _&&_, _||_}
+use mathlib.Core.Bool.{Bool, true, false, cond, _&&_}
 use mathlib.Core.List.{List, [], _∷_, _++_, reverse}
 use mathlib.Core.Option.{Option, none, some}
 use lib.Dec.{ltb, eqb}
@@ -12,9 +12,8 @@ use Rattle.units.specs.declared.SetSize.{SetSize}
 use Rattle.units.specs.declared.SetSize.the-variants.{Unsized, Sized}
 use Rattle.units.specs.declared.MarkReference.{MarkReference}
 use Rattle.units.specs.declared.MarkReference.the-variants.{Direct, Delta}
-use Rattle.units.specs.declared.AsmReference.{AsmReference}
-use Rattle.rust_model.specs.Run.{Run, done, panic, andThen, addU32, subU32, index, indexMut, range}
-use Rattle.rust_model.specs.Building.{Span, Assembler, leBytes}
+use Rattle.rust_model.specs.Run.{Run, done, panic, andThen, Build, addU32, checkedSub, index, indexMut, range}
+use Rattle.rust_model.specs.Building.{Assembler, leBytes}
 use Rattle.rust_model.specs.Sections.{AsmSection, Mark, Ops, Data, MarkRef, iterSections, asU32, bytesToHold, minCompiledSize, compiledSize}
 
 -- ---- the start table
@@ -27,13 +26,13 @@ startMark (Data span) min table = done table
 startMark (MarkRef r) min table = done table
 
 -- the first loop, from `min_size` and the table so far
-unfoldable pub startFrom : List AsmSection → ℕ → List ℕ → Run (List ℕ)
-startFrom [] min table = done table
-startFrom (s ∷ ss) min table =
+unfoldable pub startFrom : Build → List AsmSection → ℕ → List ℕ → Run (List ℕ)
+startFrom build [] min table = done table
+startFrom build (s ∷ ss) min table =
     andThen (startMark s min table) (λ table′.
-    andThen (minCompiledSize s) (λ size.
-    andThen (addU32 min size) (λ min′.
-    startFrom ss min′ table′)))
+    andThen (minCompiledSize build s) (λ size.
+    andThen (addU32 build min size) (λ min′.
+    startFrom build ss min′ table′)))
 
 -- ---- one iteration
 
@@ -68,14 +67,14 @@ orTooSmall i (some size) next = next size
 -- the walk over the sections from i on, from `current_code_offset`: a mark is moved where it is met,
 -- so that the sections behind it are sized by its new offset;
 -- a set size that is too small ends it there
-unfoldable pub walkFrom : List AsmSection → ℕ → ℕ → Walk → Run Walked
-walkFrom [] i current w = done (walked w)
-walkFrom (s ∷ ss) i current w =
+unfoldable pub walkFrom : Build → List AsmSection → ℕ → ℕ → Walk → Run Walked
+walkFrom build [] i current w = done (walked w)
+walkFrom build (s ∷ ss) i current w =
     andThen (walkMark s current w) (λ w′.
-    andThen (compiledSize (w′ .table) s) (λ size.
+    andThen (compiledSize build (w′ .table) s) (λ size.
     orTooSmall i size (λ n.
-    andThen (addU32 current n) (λ current′.
-    walkFrom ss (suc i) current′ w′))))
+    andThen (addU32 build current n) (λ current′.
+    walkFrom build ss (suc i) current′ w′))))
 
 -- ---- `converge_mark_offsets`
 
@@ -93,18 +92,18 @@ afterWalk next (walked w) = decide next (w .converged) (w .table)
 afterWalk next (tooSmall i) = done (refHasTooSmallSetSize i)
 
 -- the second loop: after the iterations allowed comes `unreachable!`
-unfoldable pub iterate : ℕ → List AsmSection → List ℕ → Run Converged
-iterate zero ss table = panic
-iterate (suc left) ss table =
-    andThen (walkFrom ss 0 0 (record { converged = true; table = table })) (afterWalk (iterate left ss))
+unfoldable pub iterate : Build → ℕ → List AsmSection → List ℕ → Run Converged
+iterate build zero ss table = panic
+iterate build (suc left) ss table =
+    andThen (walkFrom build ss 0 0 (record { converged = true; table = table })) (afterWalk (iterate build left ss))
 
 -- `MAX_ASSEMBLER_CONVERGENCE_ITERS`
 abbrev pub maxIterations : ℕ
 maxIterations = 1024
 
 -- `converge_mark_offsets`, by a table that has length n in the end
-unfoldable pub converge : ℕ → List AsmSection → Run Converged
-converge n ss = andThen (startFrom ss 0 (replicate n 0)) (iterate maxIterations ss)
+unfoldable pub converge : Build → ℕ → List AsmSection → Run Converged
+converge build n ss = andThen (startFrom build ss 0 (replicate n 0)) (iterate build maxIterations ss)
 
 -- ---- emission
 
@@ -112,7 +111,7 @@ converge n ss = andThen (startFrom ss 0 (replicate n 0)) (iterate maxIterations 
 abbrev pub emitValue : List ℕ → MarkReference → Run ℕ
 emitValue table (Direct id) = index table (id .0)
 emitValue table (Delta span) =
-    andThen (index table (span .end .0)) (λ end. andThen (index table (span .start .0)) (λ start. subU32 end start))
+    andThen (index table (span .end .0)) (λ end. andThen (index table (span .start .0)) (λ start. checkedSub end start))
 
 -- `mark_ref.set_size.unwrap_or(ref_size)`
 abbrev pub unwrapOr : SetSize → RefSize → RefSize
@@ -171,5 +170,5 @@ emission a result (ok table) = andThen (emitFrom (a .bytes) table (iterSections 
 emission a result (refHasTooSmallSetSize i) = done (tooSmallSetSize i)
 
 -- `assemble`, appending to a result, by a table that has length n in the end
-unfoldable pub assemble : ℕ → Assembler → List ℕ → Run Assembled
-assemble n a result = andThen (converge n (iterSections a)) (emission a result)
+unfoldable pub assemble : Build → ℕ → Assembler → List ℕ → Run Assembled
+assemble build n a result = andThen (converge build n (iterSections a)) (emission a result)

@@ -1,5 +1,5 @@
 -- The Rust's `Assembler` and what each building call does to its bytes and its list of stored sections, written from lib.rs.
--- Only the datatype of calls is our contracts' own. Assumes nothing.
+-- Only the datatype of calls, and what number a word's bytes are, are our contracts' own. Assumes nothing.
 use Prim.Native.Nat.{ℕ, zero, suc, _+_, _-_, _/_, _%_}
 use mathlib.Core.Bool.{Bool, true, false, cond, _&&_}
 use mathlib.Core.List.{List, [], _∷_, _++_, reverse}
@@ -12,9 +12,8 @@ use Rattle.units.specs.declared.SetSize.the-variants.{Unsized, Sized}
 use Rattle.units.specs.declared.MarkSpan.{MarkSpan}
 use Rattle.units.specs.declared.MarkReference.{MarkReference}
 use Rattle.units.specs.declared.MarkReference.the-variants.{Direct, Delta}
-use Rattle.units.specs.declared.AsmReference.{AsmReference}
 use Rattle.store.specs.Calls.{Push, pushMark, pushOpByte, pushSwap, pushDup, pushExchange, pushMinimalU256, pushMinimalU64, pushMinimalU32, pushData, pushReference, Call, push, clear}
-use Rattle.rust_model.specs.Run.{Run, done, panic, andThen, lenIdx, pushed}
+use Rattle.rust_model.specs.Run.{Run, done, panic, andThen, Build, debugAssert, lenIdx, pushed}
 
 -- `Span<AsmBytesIdx>`
 pub record Span : Type 0 where
@@ -169,7 +168,8 @@ leBytes (suc n) v = v % 256 ∷ leBytes n (v / 256)
 unfoldable pub pushSize : ℕ → ℕ
 pushSize v = 32 - leadingZeros v / 8
 
--- `op::PUSH1 + push_size as u8 - 1`, and the assertion that it is one of PUSH1 to PUSH32, hex 60 to 7f
+-- `op::PUSH1 + push_size as u8 - 1`, and the assertion that it is one of PUSH1 to PUSH32, hex 60 to 7f (the one before it, that
+-- `push_size` is a `u8`, holds of every size up to 32)
 unfoldable pub pushOp : ℕ → Run ℕ
 pushOp size = cond (leb 0x60 (0x60 + size - 1) && leb (0x60 + size - 1) 0x7f) (done (0x60 + size - 1)) panic
 
@@ -188,11 +188,16 @@ u256 word = cond (eqb (length word) 32) (done (number word)) panic
 
 -- ---- data
 
--- a last Data section is extended (its `debug_assert!` is not in a release build, and is left out), else one is added
-unfoldable pub extendData : List StoredAsmSection → Span → List ℕ → List ℕ → Run Assembler
-extendData before span bytes added =
+-- the new end of a last Data section
+unfoldable pub longerData : List StoredAsmSection → Span → List ℕ → List ℕ → Run Assembler
+longerData before span bytes added =
     andThen (lenIdx (bytes ++ added)) (λ end.
     done (record { bytes = bytes ++ added; sections = before ++ (Data (record { start = span .start; end = end }) ∷ []) }))
+
+-- the arm for a last Data section: `debug_assert!(bytes_span.end == self.bytes.len_idx())`, then the data and the new end (a length that
+-- is no index panics there too, since the new one isn't shorter)
+unfoldable pub extendData : Build → List StoredAsmSection → Span → List ℕ → List ℕ → Run Assembler
+extendData build before span bytes added = debugAssert build (eqb (span .end) (length bytes)) (longerData before span bytes added)
 
 unfoldable pub newData : Assembler → List ℕ → Run Assembler
 newData a added =
@@ -200,14 +205,14 @@ newData a added =
     andThen (lenIdx (a .bytes ++ added)) (λ end.
     done (record { bytes = a .bytes ++ added; sections = a .sections ++ (Data (record { start = start; end = end }) ∷ []) })))
 
-abbrev pub dataAfter : Last → Assembler → List ℕ → Run Assembler
-dataAfter (lastOps before span) a added = newData a added
-dataAfter (lastData before span) a added = extendData before span (a .bytes) added
-dataAfter other a added = newData a added
+abbrev pub dataAfter : Build → Last → Assembler → List ℕ → Run Assembler
+dataAfter build (lastOps before span) a added = newData a added
+dataAfter build (lastData before span) a added = extendData build before span (a .bytes) added
+dataAfter build other a added = newData a added
 
 -- `push_data`
-unfoldable pub pushedData : Assembler → List ℕ → Run Assembler
-pushedData a added = dataAfter (lastMut (a .sections)) a added
+unfoldable pub pushedData : Build → Assembler → List ℕ → Run Assembler
+pushedData build a added = dataAfter build (lastMut (a .sections)) a added
 
 -- ---- references
 
@@ -227,23 +232,23 @@ storedRef (Delta span) (Sized S4) false = Size4RawDeltaRef span
 
 -- ---- any call, and lists of them
 
-abbrev pub pushCall : Push → Assembler → Run Assembler
-pushCall (pushMark id) a = done (pushSection a (Mark id))
-pushCall (pushOpByte b) a = opByte a b
-pushCall (pushSwap depth) a = swap a depth
-pushCall (pushDup depth) a = dup a depth
-pushCall (pushExchange n m) a = exchange a n m
-pushCall (pushMinimalU256 word) a = andThen (u256 word) (minimal a)
-pushCall (pushMinimalU64 v) a = minimal a v
-pushCall (pushMinimalU32 v) a = minimal a v
-pushCall (pushData added) a = pushedData a added
-pushCall (pushReference r) a = done (pushSection a (storedRef (r .«mark_ref») (r .«set_size») (r .pushed)))
+abbrev pub pushCall : Build → Push → Assembler → Run Assembler
+pushCall build (pushMark id) a = done (pushSection a (Mark id))
+pushCall build (pushOpByte b) a = opByte a b
+pushCall build (pushSwap depth) a = swap a depth
+pushCall build (pushDup depth) a = dup a depth
+pushCall build (pushExchange n m) a = exchange a n m
+pushCall build (pushMinimalU256 word) a = andThen (u256 word) (minimal a)
+pushCall build (pushMinimalU64 v) a = minimal a v
+pushCall build (pushMinimalU32 v) a = minimal a v
+pushCall build (pushData added) a = pushedData build a added
+pushCall build (pushReference r) a = done (pushSection a (storedRef (r .«mark_ref») (r .«set_size») (r .pushed)))
 
 -- `clear` empties both
-abbrev pub call : Call → Assembler → Run Assembler
-call (push p) a = pushCall p a
-call clear a = done empty
+abbrev pub call : Build → Call → Assembler → Run Assembler
+call build (push p) a = pushCall build p a
+call build clear a = done empty
 
-unfoldable pub calls : List Call → Assembler → Run Assembler
-calls [] a = done a
-calls (c ∷ cs) a = andThen (call c a) (calls cs)
+unfoldable pub calls : Build → List Call → Assembler → Run Assembler
+calls build [] a = done a
+calls build (c ∷ cs) a = andThen (call build c a) (calls build cs)

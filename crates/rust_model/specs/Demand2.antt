@@ -4,12 +4,12 @@
 -- `assemble` and `write_asm` cite. Its proof is in proofs/Demand2. Assumes nothing.
 use Prim.Native.Nat.{ℕ, _+_, _*_, _≤_, _<_}
 use mathlib.Core.Path.{_≡_}
-use mathlib.Core.Bool.{Bool, true, false}
+use mathlib.Core.Bool.{true, false}
 use mathlib.Core.Logic.{_⊎_}
 use mathlib.Core.List.{List, [], _∷_, _++_, map}
 use lib.ListN.{length, drop}
 use lib.Seq.{slice}
-use Rattle.units.specs.Replies.{tooNarrow}
+use Rattle.units.specs.Replies.{tooNarrow, unsettled, backward}
 use Rattle.records.specs.Store.{Store, storeOf, emptyCounts, wordsPerSection, maxBytes, maxSections}
 use Rattle.records.specs.Sections.{Section, mark, ops, bytes, reference, decode}
 use Rattle.store.specs.Calls.{Call, push, clear, hasLargeMark, over, runReplies, runAfter}
@@ -18,7 +18,7 @@ use Rattle.layout.specs.Passes.{entry}
 use Rattle.layout.specs.Conditions.{Never, placed, shortAt, unplacedAt, apartAt}
 use Rattle.assembler.specs.Assemble.{Outcome, written, refused, assembly}
 use Rattle.listing.specs.Answer.{listed, listingReply, listingBuffer}
-use Rattle.rust_model.specs.Run.{Run, done, panic}
+use Rattle.rust_model.specs.Run.{Run, done, panic, Build, index}
 use Rattle.rust_model.specs.Building.{Assembler, empty, call, calls}
 use Rattle.rust_model.specs.Sections.{AsmSection, Mark, Ops, Data, MarkRef, iterSections}
 use Rattle.rust_model.specs.Assemble.{Assembled, assembled, tooSmallSetSize, assemble}
@@ -50,15 +50,15 @@ marksWithin (push p) = hasLargeMark p ≡ false
 marksWithin clear = Unit {0}
 
 -- so at each call of a list
-unfoldable pub AlwaysFits : List ℕ → List ℕ → List Call → Assembler → Type 0
-AlwaysFits bs words [] a = Unit {0}
-AlwaysFits bs words (c ∷ cs) a =
-    marksWithin c × ((a′ : Assembler) → call c a ≡ done a′ → Fits bs words a′ × AlwaysFits bs words cs a′)
+unfoldable pub AlwaysFits : Build → List ℕ → List ℕ → List Call → Assembler → Type 0
+AlwaysFits build bs words [] a = Unit {0}
+AlwaysFits build bs words (c ∷ cs) a =
+    marksWithin c × ((a′ : Assembler) → call build c a ≡ done a′ → Fits bs words a′ × AlwaysFits build bs words cs a′)
 
 -- the premise of all that follows: the building calls don't panic, and come to `a`; limits hold and the two slices are long enough
-pub record Builds (bs words : List ℕ) (cs : List Call) (a : Assembler) : Type 0 where
-  pub noPanic : calls cs empty ≡ done a
-  pub fits : AlwaysFits bs words cs empty
+pub record Builds (build : Build) (bs words : List ℕ) (cs : List Call) (a : Assembler) : Type 0 where
+  pub noPanic : calls build cs empty ≡ done a
+  pub fits : AlwaysFits build bs words cs empty
 
 -- ---- the store
 
@@ -83,7 +83,7 @@ pub record SameStore (bs words : List ℕ) (cs : List Call) (a : Assembler) : Ty
 pub record Assembles (a : Assembler) (lent own : ℕ) : Type 0 where
   -- 'every named mark is placed'
   pub marksPlaced : Never (sectionsOf a) (unplacedAt (sectionsOf a))
-  -- 'none has bytes between its placings'
+  -- 'none has bytes between its placings': no mark, named or not, as in demand 3 and in number 9
   pub together : Never (sectionsOf a) (apartAt (sectionsOf a))
   -- 'no lent slice is too short': the table
   pub inTable : Never (sectionsOf a) (shortAt lent (sectionsOf a))
@@ -94,11 +94,11 @@ pub record Assembles (a : Assembler) (lent own : ℕ) : Type 0 where
 pub record SameCode (a : Assembler) (before table result′ : List ℕ) (result : List ℕ) (position : ℕ) (ours : Outcome) : Type 0 where
   pub code : List ℕ
   pub appended : result′ ≡ before ++ code
-  -- where the lent result is long enough for it
   pub passes : ℕ
+  -- where the lent result is long enough for it
   pub reply : position + length code ≤ length result → ours .reply ≡ written (length code) passes
   pub wrote : position + length code ≤ length result → ours .result ≡ over result position code
-  pub offsets : position + length code ≤ length result → (m : ℕ) → placed (sectionsOf a) m ≡ true → entry (ours .table) m ≡ entry table m
+  pub offsets : position + length code ≤ length result → (m : ℕ) → placed (sectionsOf a) m ≡ true → index table m ≡ done (entry (ours .table) m)
 
 -- the section of a too small set size
 abbrev pub SameSection : ℕ → Outcome → Type 0
@@ -108,7 +108,7 @@ SameSection i ours = (passes : ℕ) × (ours .reply ≡ refused tooNarrow i pass
 abbrev pub SameAssembly : Assembler → List ℕ → List ℕ → ℕ → Outcome → Run Assembled → Type 0
 SameAssembly a before result position ours (done (assembled table result′)) = SameCode a before table result′ result position ours
 SameAssembly a before result position ours (done (tooSmallSetSize i)) = SameSection i ours
-SameAssembly a before result position ours panic = (i : ℕ) × (passes : ℕ) × ((ours .reply ≡ refused 11 i passes) ⊎ (ours .reply ≡ refused 12 i passes))
+SameAssembly a before result position ours panic = (i : ℕ) × (passes : ℕ) × ((ours .reply ≡ refused unsettled i passes) ⊎ (ours .reply ≡ refused backward i passes))
 
 -- ---- listing
 
@@ -121,9 +121,10 @@ pub record SameListing (a : Assembler) (st : Store) : Type 0 where
 
 -- ---- the demand
 
-pub record Demand2 (bs words : List ℕ) (cs : List Call) (a : Assembler) : Type 0 where
+-- of the Rust as it is built
+pub record Demand2 (build : Build) (bs words : List ℕ) (cs : List Call) (a : Assembler) : Type 0 where
   pub store : SameStore bs words cs a
   -- by every length of the Rust's table, whatever its result held before
   pub assembly : (lent own : ℕ) → Assembles a lent own → (before result : List ℕ) (position : ℕ)
-      → SameAssembly a before result position (assembly wordsPerSection (built bs words cs) lent result position) (assemble own a before)
+      → SameAssembly a before result position (assembly wordsPerSection (built bs words cs) lent result position) (assemble build own a before)
   pub listing : SameListing a (built bs words cs)

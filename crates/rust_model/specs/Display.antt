@@ -1,5 +1,5 @@
--- The Rust's `write_asm`, written from display.rs and from `op::push_size` of op.rs. Only the 256 names are our contracts' own.
--- Writing to a `String` doesn't fail. Assumes nothing.
+-- The Rust's `write_asm`, written from display.rs and from `op::push_size` of op.rs. Only the 256 names, and what bytes a text is, are our
+-- contracts' own. Writing to a `String` doesn't fail. Assumes nothing.
 use Prim.Native.Nat.{ℕ, zero, suc, _+_, _-_, _/_, _%_, min}
 use mathlib.Core.Bool.{Bool, true, false, cond, _&&_}
 use mathlib.Core.List.{List, [], _∷_, _++_}
@@ -40,7 +40,8 @@ pushSize opcode = cond (leb 0x60 opcode && leb opcode 0x7f) (some (opcode - 0x60
 
 -- ---- `fmt_ops`
 
--- the line of an opcode with a push size, whose immediate is from one index to another
+-- the line of an opcode with a push size, whose immediate is from one index to another (in order and within `ops`, so `&ops[..]`
+-- doesn't panic)
 unfoldable pub pushLine : List ℕ → ℕ → ℕ → ℕ → ℕ → List ℕ
 pushLine ops opcode size immStart immEnd =
     asBytes "  " ++ opName opcode ++ asBytes " 0x" ++ hexBytes (slice immStart immEnd ops)

@@ -1,8 +1,8 @@
 -- What the Rust comes to: a value or a panic; and the steps of it that can panic. Written from plank-core's index.rs, index_vec/mod.rs
--- and span.rs, and from the language: an index past the end panics, and a `u32` that overflows does, as it does in a build with overflow
--- checks. Assumes nothing.
-use Prim.Native.Nat.{ℕ, _+_, _-_}
-use mathlib.Core.Bool.{cond, _&&_}
+-- and span.rs, and from the language: an index past the end panics in every build, a `u32` that overflows panics in a debug build and
+-- wraps round in a release build, and only a debug build has `debug_assert!`. Assumes nothing.
+use Prim.Native.Nat.{ℕ, _+_, _-_, _%_}
+use mathlib.Core.Bool.{Bool, cond, _&&_}
 use mathlib.Core.List.{List, [], _∷_, _++_}
 use lib.Dec.{leb, ltb}
 use lib.ListN.{length, getD, set}
@@ -17,13 +17,32 @@ abbrev pub andThen : {A B : Type 0} → Run A → (A → Run B) → Run B
 andThen (done x) next = next x
 andThen panic next = panic
 
+-- how the Rust is built
+pub data Build : Type 0 where
+  debug : Build
+  release : Build
+
+-- a result that is out of range, and what is left of it modulo 2^32
+abbrev pub overflow : Build → ℕ → Run ℕ
+overflow debug wrapped = panic
+overflow release wrapped = done wrapped
+
 -- `a + b` of two `u32`
-unfoldable pub addU32 : ℕ → ℕ → Run ℕ
-addU32 a b = cond (ltb (a + b) 4294967296) (done (a + b)) panic
+unfoldable pub addU32 : Build → ℕ → ℕ → Run ℕ
+addU32 build a b = cond (ltb (a + b) 4294967296) (done (a + b)) (overflow build ((a + b) % 4294967296))
 
 -- `a - b` of two `u32`, or of two indices
-unfoldable pub subU32 : ℕ → ℕ → Run ℕ
-subU32 a b = cond (leb b a) (done (a - b)) panic
+unfoldable pub subU32 : Build → ℕ → ℕ → Run ℕ
+subU32 build a b = cond (leb b a) (done (a - b)) (overflow build ((4294967296 + a - b) % 4294967296))
+
+-- `a.checked_sub(b).expect(..)`
+unfoldable pub checkedSub : ℕ → ℕ → Run ℕ
+checkedSub a b = cond (leb b a) (done (a - b)) panic
+
+-- `debug_assert!(test)`, then what follows
+abbrev pub debugAssert : {A : Type 0} → Build → Bool → Run A → Run A
+debugAssert debug test next = cond test next panic
+debugAssert release test next = next
 
 -- `xs[i]`
 unfoldable pub index : List ℕ → ℕ → Run ℕ

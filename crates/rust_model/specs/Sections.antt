@@ -13,7 +13,7 @@ use Rattle.units.specs.declared.MarkSpan.{MarkSpan}
 use Rattle.units.specs.declared.MarkReference.{MarkReference}
 use Rattle.units.specs.declared.MarkReference.the-variants.{Direct, Delta}
 use Rattle.units.specs.declared.AsmReference.{AsmReference}
-use Rattle.rust_model.specs.Run.{Run, done, panic, andThen, subU32, index}
+use Rattle.rust_model.specs.Run.{Run, done, andThen, Build, subU32, index}
 use Rattle.rust_model.specs.Building.{Span, StoredAsmSection, Assembler}
 use Rattle.rust_model.specs.Building as stored
 
@@ -67,11 +67,11 @@ minRefSize (Sized s) false = asU32 s
 minRefSize Unsized pushed = 1
 
 -- `min_compiled_size`
-abbrev pub minCompiledSize : AsmSection → Run ℕ
-minCompiledSize (Mark id) = done 0
-minCompiledSize (Ops span) = subU32 (span .end) (span .start)
-minCompiledSize (Data span) = subU32 (span .end) (span .start)
-minCompiledSize (MarkRef r) = done (minRefSize (r .«set_size») (r .pushed))
+abbrev pub minCompiledSize : Build → AsmSection → Run ℕ
+minCompiledSize build (Mark id) = done 0
+minCompiledSize build (Ops span) = subU32 build (span .end) (span .start)
+minCompiledSize build (Data span) = subU32 build (span .end) (span .start)
+minCompiledSize build (MarkRef r) = done (minRefSize (r .«set_size») (r .pushed))
 
 -- `a.saturating_sub(b)`
 unfoldable pub saturatingSub : ℕ → ℕ → ℕ
@@ -91,9 +91,9 @@ refSizeFor Unsized true v held = cond (eqb v 0) (some 1) (some (1 + asU32 held))
 refSizeFor Unsized false v held = some (asU32 held)
 
 -- `compiled_size`
-abbrev pub compiledSize : List ℕ → AsmSection → Run (Option ℕ)
-compiledSize markMap (Mark id) = done (some 0)
-compiledSize markMap (Ops span) = andThen (subU32 (span .end) (span .start)) (λ n. done (some n))
-compiledSize markMap (Data span) = andThen (subU32 (span .end) (span .start)) (λ n. done (some n))
-compiledSize markMap (MarkRef r) =
+abbrev pub compiledSize : Build → List ℕ → AsmSection → Run (Option ℕ)
+compiledSize build markMap (Mark id) = done (some 0)
+compiledSize build markMap (Ops span) = andThen (subU32 build (span .end) (span .start)) (λ n. done (some n))
+compiledSize build markMap (Data span) = andThen (subU32 build (span .end) (span .start)) (λ n. done (some n))
+compiledSize build markMap (MarkRef r) =
     andThen (walkValue markMap (r .«mark_ref»)) (λ v. done (refSizeFor (r .«set_size») (r .pushed) v (bytesToHold v)))
