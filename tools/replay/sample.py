@@ -1,10 +1,15 @@
 #!/usr/bin/env python3
-"""Writes the sample script of `replay` and what it must print, by the model: sample.py [FOLDER] (../../crates/replay).
-One header serves the whole script; cases are parted by kind 0, and a full slice is met near its end."""
+"""Writes the sample script of `replay` and what it must print: sample.py [--check] DRIVER [FOLDER] (../../crates/replay).
+With --check it compares instead. The expected lines are the model's; those of the last part, the fixed list, are the original's
+(DRIVER is tools/oracle's), but for what the original doesn't answer. One header serves the whole script; cases are parted by
+kind 0, and a full slice is met near its end."""
 import os, struct, sys
 import gen, model
 
-BYTES, WORDS, TABLE, RESULT, LISTING = 65536, 9300, 1100, 70000, 4096  # room for line 11
+sys.path.append(os.path.join(os.path.dirname(os.path.abspath(__file__)), "../oracle"))
+import fixed, lists, scripts
+
+LENGTHS = BYTES, WORDS, TABLE, RESULT, LISTING = 65536, 9300, 1100, 70000, 4096  # room for line 11
 SECTIONS = WORDS // 3
 NEAR_BYTES, NEAR_SECTIONS = 80, 12  # what is printed of the slices, and what is left where one is nearly full
 NEAR_WORDS = 3 * NEAR_SECTIONS
@@ -14,7 +19,7 @@ FORMS = (0, 1, 2, 3, 4, 8, 9, 10, 11, 12)
 
 pool = bytearray()
 steps = []
-live = model.Model((BYTES, WORDS, TABLE, RESULT, LISTING), pool)
+live = model.Model(LENGTHS, pool)
 
 
 def keep(what):
@@ -626,12 +631,13 @@ for calls in (
     calls()
     coded()
 
-# number 8: a named mark that isn't placed, at either end; before 9; an unplaced mark that nobody names is none
+# number 8: a named mark that isn't placed, at either end; before 9 and 10; an unplaced mark that nobody names is none
 for calls in (
     lambda: (mark(0), direct(0, 8), direct(1, 8), direct(2, 8)),
     lambda: (mark(0), delta(0, 1, 8)),
     lambda: (mark(0), delta(1, 0, 0)),
     lambda: (mark(0), op(0), mark(0), direct(3, 1)),
+    lambda: (zeros(256), mark(0), direct(0, 9), direct(1, 8)),
 ):
     new()
     calls()
@@ -745,18 +751,42 @@ step(0, TOP, TOP)
 show()
 
 
+# the fixed list: the original's answers
+FIXED = list(fixed.steps(keep(lists.POOL)[0], LENGTHS))
+
+
 def finished(s):
     """A step as bytes; a triple counts from the pool's end, which is known only when all is kept."""
     return s if isinstance(s, bytes) else struct.pack(">BII", s[0], len(pool) + s[1], len(pool) + s[2])
 
 
 def script():
-    return struct.pack(">6I", BYTES, WORDS, TABLE, RESULT, LISTING, len(pool)) + bytes(pool) + b"".join(finished(s) for s in steps)
+    whole = struct.pack(">6I", *LENGTHS, len(pool)) + bytes(pool) + b"".join(finished(s) for s in steps)
+    return whole + b"".join(struct.pack(">BII", *s) for s in FIXED)
+
+
+def original(driver):
+    """What the original answers to the fixed list, with the model's answer where it has none."""
+    store = model.Model(LENGTHS, bytes(pool))
+    ours = [store.step(*s) + ("" if s[0] == 28 else "\n") for s in FIXED]
+    return "".join(map(scripts.filled, scripts.answers([driver], LENGTHS, bytes(pool), FIXED), ours))
+
+
+def main(driver, folder=os.path.join(os.path.dirname(os.path.abspath(__file__)), "../../crates/replay"), check=False):
+    whole = script()
+    expected = model.replay(whole[: -9 * len(FIXED)]) + original(driver)
+    wrong = 0
+    for name, what in (("stdin", whole), ("stdout", expected.encode("latin1"))):
+        path = os.path.join(folder, name)
+        if not check:
+            open(path, "wb").write(what)
+        elif open(path, "rb").read() != what:
+            wrong += 1
+            print(f"{name} differs")
+    print(f"{len(whole)} bytes, {len(steps)} steps and {len(FIXED)} of the fixed list ({sum(s[0] == 0 for s in FIXED)} cases), pool {len(pool)}")
+    return wrong > 0
 
 
 if __name__ == "__main__":
-    folder = sys.argv[1] if len(sys.argv) > 1 else os.path.join(os.path.dirname(os.path.abspath(__file__)), "../../crates/replay")
-    whole = script()
-    open(os.path.join(folder, "stdin"), "wb").write(whole)
-    open(os.path.join(folder, "stdout"), "wb").write(model.replay(whole).encode("latin1"))
-    print(f"{len(whole)} bytes, {len(steps)} steps, pool {len(pool)}")
+    args = [arg for arg in sys.argv[1:] if arg != "--check"]
+    sys.exit(main(*args, check="--check" in sys.argv))

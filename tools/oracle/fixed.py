@@ -1,0 +1,49 @@
+"""The fixed list: call lists on which the original's answers are kept in the replay sample. tools/replay/sample.py puts them
+there; every list meets demand 2's premises, so that replay must answer the same."""
+from collections.abc import Iterator
+import lists
+from lists import FORMS, NUMBERS, data, delta, direct, dup, exchange, mark, op, swap, u256, u32, u64
+from scripts import Step, model
+
+SEED, RANDOM = "fixed", 220  # random lists tried
+LONGEST = 1200  # bytes of code printed whole
+
+
+def by_hand() -> Iterator[lists.Calls]:
+    """Every op byte, depth, width of a minimal push, and form at each width of its value."""
+    for first in range(0, 256, 32):
+        yield [c for byte in range(first, first + 32) for c in (op(byte), mark(byte))]
+    yield [swap(n) for n in range(1, 17)] + [dup(n) for n in range(16)]
+    yield [exchange(n, m) for n, m in ((0, 1), (1, 0), (0, 16), (16, 0), (1, 2), (2, 1), (16, 1), (15, 16))]
+    for first in range(0, len(NUMBERS), 25):
+        yield [c for i in range(first, min(first + 25, len(NUMBERS))) for c in (u256(i), *data(0))]
+    for call, size in ((u64, 8), (u32, 4)):
+        yield [call(v) for n in range(size) for v in (256**n - 1, 256**n, 256 ** (n + 1) - 1)]
+    for value in (0, 1, 255, 256, 65535, 65536):
+        for form in FORMS:
+            yield [*data(7 if value < 65535 else 0), mark(5), *data(value), mark(6), delta(5, 6, form)]
+            yield [*data(value), mark(6), direct(6, form)]
+    for before in (252, 253, 254):  # the value counts the reference itself
+        for form in FORMS:
+            yield [direct(0, form), *data(before), mark(0)]
+
+
+def steps(base: int, lengths: tuple[int, ...]) -> Iterator[Step]:
+    """The steps, for a pool that has POOL at `base`, and for slices of these lengths."""
+    store = model.Model(lengths, lists.POOL)
+    for calls in (*by_hand(), *(lists.one(f"{SEED} {i}") for i in range(RANDOM))):
+        store.anew()
+        built = all(store.step(*call).startswith("stored ") for call in calls)
+        word, number, *_ = store.step(20, 0, 0).split()
+        if not built or not (word == "length" or number == "10"):
+            continue
+        yield 0, 0, 0
+        yield from ((kind, a + base, b + base) if kind in (3, 8) else (kind, a, b) for kind, a, b in calls)
+        yield 20, 0, 0
+        if word == "length":
+            end = int(number)
+            yield 26, 0, max((a + 1 for kind, a, _ in calls if kind == 1), default=0)
+            yield from ((27, 0, end),) if end <= LONGEST else ((27, 0, 40), (27, end - 40, end))
+        word, number, *_ = store.step(21, 0, 0).split()
+        if word == "listing":
+            yield from ((21, 0, 0), (28, 0, int(number)))
