@@ -1,10 +1,11 @@
 #!/bin/sh
-# build.sh SRC OUT: builds the original assembler from the src--*.txt files of the folder SRC, unchanged,
-# beside the stand-ins, and the driver. The program is OUT/driver. Needs rustc alone.
+# build.sh SRC OUT [CHECKS]: builds the original assembler from the src--*.txt files of the folder SRC, unchanged,
+# beside the stand-ins, and the driver. The program is OUT/driver. CHECKS is on (a debug build's assertions and overflow
+# checks) or off (a release build's). Needs rustc alone.
 set -eu
-[ $# -eq 2 ] || { echo "usage: build.sh SRC OUT" >&2; exit 2; }
+[ $# -eq 2 ] || [ $# -eq 3 ] || { echo "usage: build.sh SRC OUT [on|off]" >&2; exit 2; }
 here=$(cd "$(dirname "$0")" && pwd)
-src=$1 out=$2
+src=$1 out=$2 checks=${3:-on}
 
 # The original's own layout: src--plankc--a--b.rs.txt is plankc/a/b.rs.
 for file in "$src"/src--plankc--*.rs.txt; do
@@ -16,8 +17,8 @@ core=$out/plankc/crates/plank-core/src
 cp "$here/stand-ins/plank_core.rs" "$core/lib.rs"
 cp "$here/stand-ins/idx_slice.rs" "$core/index_vec/idx_slice.rs"
 
-# An overflow or a broken debug_assert! shows as a panic.
-flags="--edition 2024 -O -C overflow-checks=on -C debug-assertions=on --cap-lints allow -L $out"
+# With checks an overflow or a broken debug_assert! shows as a panic.
+flags="--edition 2024 -O -C overflow-checks=$checks -C debug-assertions=$checks --cap-lints allow -L $out"
 library() { # library NAME FILE, and what it uses
     name=$1 file=$2
     shift 2

@@ -51,6 +51,8 @@ CASES: list[tuple] = [
     (10, "mark 0, op 5b, mark 0", [mark(0), op(0x5B), mark(0), ASSEMBLE], ["refused 9 at 2 passes 0"], [UNSETTLED]),
     (10, "raw ref 0 size 1, 256 data bytes, mark 0, op 5b, mark 0", [direct(0, 1), *data(256), mark(0), op(0x5B), mark(0), ASSEMBLE],
      ["refused 9 at 4 passes 0"], ["refused 10 at 0 passes ?"]),
+    (10, "mark 1, op 5b, mark 1, not named; raw ref 0 size 1, 254 data bytes, mark 0",
+     [mark(1), op(0x5B), mark(1), direct(0, 1), *data(254), mark(0), ASSEMBLE], ["refused 9 at 2 passes 0"], ["refused 10 at 3 passes ?"]),
     (11, "ten sections that never settle", [*RESTLESS[0], ASSEMBLE], ["refused 11 at 0 passes 1024"], [UNSETTLED]),
     (11, "line 11, N = 1,023", [*line_11(1023, 61445), ASSEMBLE], ["refused 11 at 0 passes 1024"], [UNSETTLED]),
     (12, "mark 0, op 5b, mark 1, pushed delta 1 to 0", [mark(0), op(0x5B), mark(1), delta(1, 0, 8), ASSEMBLE, bytes_of(1)],
