@@ -1,8 +1,10 @@
--- How a store's counts and the answers are one number each: number * 2^56 + mid * 2^32 + low. That the numbers come back out is
+-- How a store's counts and the answers are one number each: number * 2^56 + mid * 2^32 + low. That the answers come back out is
 -- proofs/Unpacking. Assumes nothing.
 use Prim.Native.Nat.{ℕ, _+_, _*_, _/_, _%_, _^_, _≤_, _<_}
 use mathlib.Core.Path.{_≡_}
+use mathlib.Core.Bool.{cond}
 use mathlib.Core.List.{List}
+use lib.Dec.{eqb}
 use Rattle.units.specs.Replies as building
 use Rattle.records.specs.declared.Assembler.{Assembler}
 use Rattle.records.specs.Store.{Store, storeOf}
@@ -66,3 +68,13 @@ AssembledPacks (assembly.refused number section passes) = (1 ≤ number) × Pack
 abbrev pub ListedPacks : listing.ListingReply → Type 0
 ListedPacks (listing.listed size) = size < 2 ^ 56
 ListedPacks (listing.refused number section passes) = (1 ≤ number) × Packs number passes section
+
+-- the reply that a number is: accepted where its number is 0
+abbrev pub builtIn : ℕ → building.Reply
+builtIn answer = cond (eqb (numberIn answer) 0) (building.stored (lowIn answer) (midIn answer)) (building.refused (numberIn answer) (lowIn answer) (midIn answer))
+
+abbrev pub assembledIn : ℕ → assembly.Reply
+assembledIn answer = cond (eqb (numberIn answer) 0) (assembly.written (lowIn answer) (midIn answer)) (assembly.refused (numberIn answer) (lowIn answer) (midIn answer))
+
+abbrev pub listedIn : ℕ → listing.ListingReply
+listedIn answer = cond (eqb (numberIn answer) 0) (listing.listed answer) (listing.refused (numberIn answer) (lowIn answer) (midIn answer))
