@@ -3,15 +3,19 @@ use Prim.Native.Nat.{ℕ, _+_, _*_, _/_, _%_, _^_, _≤_, _<_}
 use native.Mathlib.Omega.{arith}
 use mathlib.Core.Path.{_≡_, refl, sym, ap, _∙_}
 use mathlib.Core.List.{List}
-use mathlib.Core.Bool.{cond}
-use borrow.Author.Tests.{ne-eqb}
+use mathlib.Core.Bool.{Bool, true, false, cond, not, _&&_}
+use lib.ListN.{length}
+use lib.Dec.{leb}
+use borrow.Author.Tests.{ne-eqb, lt-leb}
 use Rattle.units.specs.Replies as building
 use Rattle.records.specs.declared.Assembler.{Assembler}
-use Rattle.records.specs.Store.{Store}
+use Rattle.records.specs.Store.{Store, maxBytes, maxSections, badCounts}
+use Rattle.records.specs.Damage.{badCount, wholeSoundness, badCountBuilding, lastSoundness}
+use Rattle.records.specs.declared.damage.Soundness.the-variants.{Damaged}
 use Rattle.store.specs.Calls.{Push, pushReply}
 use Rattle.assembler.specs.Assemble as assembly
 use Rattle.listing.specs.Answer as listing
-use Rattle.sadrokki.specs.Numbers.{packed, numberIn, midIn, lowIn, countsIn, builtNumber, assembledNumber, listedNumber, Packs, BuiltPacks, AssembledPacks, ListedPacks, builtIn, assembledIn, listedIn}
+use Rattle.sadrokki.specs.Numbers.{packed, numberIn, midIn, lowIn, countsIn, storeIn, builtNumber, assembledNumber, listedNumber, Packs, BuiltPacks, AssembledPacks, ListedPacks, builtIn, assembledIn, listedIn}
 use Rattle.sadrokki.proofs.Bounds.{push-packs, assembly-packs, listing-packs}
 
 -- number, mid and low come back out
@@ -60,3 +64,28 @@ stored-state b s h =
     let low : packed 0 s b % 2 ^ 32 ≡ b = omega (arith, h .1, h .2) in
     let high : packed 0 s b / 2 ^ 32 ≡ s = omega (arith, h .1, h .2) in
     rw (low, high)
+
+-- ---- a refusal taken as a state
+
+-- one test of four fails
+third-fails : (a b c d : Bool) → c ≡ false → not (a && b && c && d) ≡ true
+third-fails true true c d e = rw e
+third-fails true false c d e = refl
+third-fails false b c d e = refl
+
+module _ (w answer : ℕ) (bytes words : List ℕ) (refused : 1 ≤ numberIn answer) where
+  -- it passes the limit of sections
+  refused-counts : badCounts w (storeIn answer bytes words) ≡ true
+  unfolding badCounts
+  refused-counts =
+      third-fails (leb (answer % 2 ^ 32) (length bytes)) (leb (answer % 2 ^ 32) maxBytes) (leb (answer / 2 ^ 32) maxSections) (leb (w * (answer / 2 ^ 32)) (length words))
+      (lt-leb (answer / 2 ^ 32) maxSections (omega arith))
+
+  -- so every later call that tests the store answers 6 at section 0: a caller may look at the last answer alone
+  pub refused-last : lastSoundness w (storeIn answer bytes words) ≡ Damaged 0
+  unfolding lastSoundness badCountBuilding
+  refused-last = rw refused-counts
+
+  pub refused-whole : wholeSoundness w (storeIn answer bytes words) ≡ Damaged 0
+  unfolding wholeSoundness badCount
+  refused-whole = rw refused-counts
