@@ -13,6 +13,7 @@ use Rattle.records.specs.Store.{Store, maxBytes, maxSections, badCounts}
 use Rattle.records.specs.Damage.{badCount, wholeSoundness, badCountBuilding, lastSoundness}
 use Rattle.records.specs.declared.damage.Soundness.the-variants.{Damaged}
 use Rattle.store.specs.Calls.{Push, pushReply}
+use Rattle.store_view.proofs.Refusals.{push-answers}
 use Rattle.assembler.specs.Assemble as assembly
 use Rattle.listing.specs.Answer as listing
 use Rattle.sadrokki.specs.Numbers.{packed, numberIn, midIn, lowIn, countsIn, storeIn, builtNumber, assembledNumber, listedNumber, Packs, BuiltPacks, AssembledPacks, ListedPacks, builtIn, assembledIn, listedIn}
@@ -56,6 +57,14 @@ listed-back w st text = go (listing.listingReply w st text) (listing-packs w st 
         simp none
     go (listing.refused n i k) h =
         simp (number-back n k i (h .1), mid-back n k i (h .1), low-back n k i (h .1), ne-eqb n 0 (omega (arith, h .0)))
+
+-- a building call answers no number above 6: 255 is left to a form that names nothing
+pub built-below : (w : ℕ) (p : Push) (st : Store) → numberIn (builtNumber (pushReply w p st)) ≤ 6
+built-below w p st = go (pushReply w p st) refl (push-packs w p st)
+  where
+    go : (r : building.Reply) → pushReply w p st ≡ r → BuiltPacks r → numberIn (builtNumber r) ≤ 6
+    go (building.stored b s) e h = omega (arith, number-back 0 s b h)
+    go (building.refused n i k) e h = omega (arith, number-back n k i (h .1), push-answers w p st .numbers n i k e .1)
 
 -- the next state is the counts that the call leaves: an accepted answer is a state
 pub stored-state : (bytes sections : ℕ) → BuiltPacks (building.stored bytes sections)
