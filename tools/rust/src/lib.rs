@@ -144,7 +144,8 @@ impl Assembler {
         let position = result.len();
         let marks = mark_id_count_hint.unwrap_or(ASSUMED_MARK_COUNT_WITHOUT_HINT);
         let mut table = vec![0; marks];
-        // Every reference has 5 bytes at most; most sections are none.
+        // A reference has 5 bytes at most, and most sections are none.
+        let most = self.stored_bytes() + 5 * self.sections();
         let mut room = self.stored_bytes() + 2 * self.sections();
         loop {
             result.resize(position + room, 0);
@@ -162,7 +163,7 @@ impl Assembler {
                     return Ok(MarkOffsets(table));
                 }
                 7 if table.len() < MAX_MARKS => grow(&mut table, MAX_MARKS),
-                13 => room = self.stored_bytes() + 5 * self.sections(),
+                13 if room < most => room = most,
                 number => {
                     result.truncate(position);
                     return Err(answer.error(number));
@@ -173,7 +174,7 @@ impl Assembler {
 
     /// The listing, handed on in one piece.
     pub fn write_asm(&self, f: &mut impl fmt::Write) -> fmt::Result {
-        let mut text = vec![0; 16 * self.sections() + 4 * self.stored_bytes()];
+        let mut text = vec![0; 16 * self.sections() + 12 * self.stored_bytes()];
         loop {
             let answer = calls::write_asm(self.state, &self.bytes, &self.words, &mut text);
             match answer.number() {
