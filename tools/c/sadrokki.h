@@ -7,9 +7,10 @@
  * Answer: number * 2^56 + mid * 2^32 + low.
  *   number 0, accepted: a building call's answer is the next state; assemble: mid = passes, low = code length;
  *     write_asm: the whole answer is the text's length; op_name, size_for, least_size: low = bytes.
- *   number 1 to 14, a refusal of document 01: mid = passes, low = section. As a state it is refused by 6 (or by the
- *     call's own 1, 2, 3) ever after, so that a caller may look at the last answer alone.
+ *   number 1 to 14, a refusal of document 01: mid = passes, low = section.
  *   number 255: an argument names nothing; nothing changed.
+ * Either, taken as a state, is answered with 6 by every call that doesn't refuse for its own arguments, so that a caller may
+ * look at the last answer alone.
  * Form of a reference: set size (0 unsized, else 1 to 4) plus 8 if pushed. */
 #ifndef SADROKKI_H
 #define SADROKKI_H

@@ -8,7 +8,7 @@ here=$(cd "$(dirname "$0")" && pwd)
 lib=$(cd "$(dirname "$1")" && pwd)
 out=$(mktemp -d)
 trap 'rm -rf "$out"' EXIT
-flags="--edition 2024 -O -D warnings -L native=$lib -L $out"
+flags="--edition 2024 -O -L native=$lib -L $out"
 rustc $flags --crate-type rlib --crate-name sadrokki -l static=sadrokki --out-dir "$out" "$here/src/lib.rs"
 rustc $flags --test -o "$out/fixed" "$here/tests/fixed.rs" --extern sadrokki
 "$out/fixed"

@@ -11,6 +11,7 @@ use lib.Dec.{ltb}
 use borrow.Author.Tests.{le-leb, lt-leb, lt-ltb, le-ltb}
 use Rattle.units.specs.declared.SetSize.{SetSize}
 use Rattle.units.specs.declared.MarkReference.{MarkReference}
+use Rattle.units.specs.Reference.{tooNarrow, size, leastSize, sizeFor}
 use Rattle.units.specs.Replies.{Reply}
 use Rattle.records.specs.declared.Assembler.{Assembler}
 use Rattle.records.specs.Record.{setSizeOf}
@@ -27,7 +28,7 @@ use Rattle.listing.specs.Answer.{ListingReply, listingReply, listingBuffer}
 use Rattle.sadrokki.specs.declared.form.Form.{Form}
 use Rattle.sadrokki.specs.declared.form.Form.the-variants.{Names, Nothing}
 use Rattle.sadrokki.specs.Numbers.{countsIn, storeIn, namesNothing, builtNumber, assembledNumber, listedNumber, BuiltPacks, AssembledPacks, ListedPacks}
-use Rattle.sadrokki.specs.Forms.{formOf, formed, referenceNumber, referenceAfter}
+use Rattle.sadrokki.specs.Forms.{formOf, direct, formed, referenceNumber, referenceAfter}
 use Rattle.sadrokki.specs.Facts.{nameNumber, nameArray}
 use Rattle.sadrokki.proofs.Bounds.{push-packs, assembly-packs, listing-packs}
 
@@ -79,6 +80,12 @@ module _ (n : ℕ) where
   pub form-above : 13 ≤ n → Nothing ≡ formOf n
   unfolding formOf
   form-above l = rw (lt-leb n 4 (omega arith), le-leb 8 n (omega arith), lt-leb n 12 (omega arith))
+
+-- sizes are a matter of the form alone
+pub size-any-mark : (m : MarkReference) (s : SetSize) (p : Bool) (v : ℕ)
+    → (sizeFor (formed m s p) v ≡ sizeFor (formed (direct 0) s p) v) × (leastSize (formed m s p) ≡ leastSize (formed (direct 0) s p))
+unfolding sizeFor tooNarrow size leastSize
+size-any-mark m s p v = (refl, refl)
 
 -- a reference in a form: the form as the code has it
 module _ (m : MarkReference) (state : ℕ) (bytes words : List ℕ) (n : ℕ) (f : Form) (read : f ≡ formOf n) where

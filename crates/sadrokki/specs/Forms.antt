@@ -22,6 +22,7 @@ use Rattle.sadrokki.specs.Numbers.{packed, namesNothing, builtNumber}
 unfoldable pub formOf : ℕ → Form
 formOf n = cond (leb n 4) (Names (setSizeOf n) false) (cond (leb 8 n && leb n 12) (Names (setSizeOf (n - 8)) true) Nothing)
 
+-- a mark's offset; one mark's offset minus another's; and either in a form
 abbrev pub direct : ℕ → MarkReference
 direct mark = Direct (record { 0 = mark })
 
@@ -46,11 +47,12 @@ abbrev pub sizeNumber : SizeFor → ℕ
 sizeNumber (Bytes n) = packed 0 0 n
 sizeNumber TooNarrow = packed tooNarrow 0 0
 
--- the size of a form for a value; no size depends on the marks
+-- the size of a form for a value; no size depends on the marks (proofs/Answers, `size-any-mark`)
 abbrev pub sizeForNumber : Form → ℕ → ℕ
 sizeForNumber (Names s p) v = sizeNumber (sizeFor (formed (direct 0) s p) v)
 sizeForNumber Nothing v = namesNothing
 
+-- its least size
 abbrev pub leastSizeNumber : Form → ℕ
 leastSizeNumber (Names s p) = packed 0 0 (leastSize (formed (direct 0) s p))
 leastSizeNumber Nothing = namesNothing
