@@ -41,7 +41,7 @@ abbrev Placing : List Section → ℕ → ℕ → ℕ → Type 0
 Placing ss m sum x = ((x ≡ 0) × (placed ss m ≡ false)) ⊎ FirstAt ss m sum x
 
 -- an entry that is set stays
-place-kept : (ss : List Section) (sum : ℕ) (table : List ℕ) (m : ℕ) → (entry table m ≡ 0 → ⊥) → entry (placeFrom ss sum table) m ≡ entry table m
+pub place-kept : (ss : List Section) (sum : ℕ) (table : List ℕ) (m : ℕ) → (entry table m ≡ 0 → ⊥) → entry (placeFrom ss sum table) m ≡ entry table m
 unfolding placeFrom
 place-kept [] sum table m h = refl
 place-kept (mark a ∷ ss) sum table m h = go (eqb (entry table a) 0) refl (λ t k. place-kept ss sum t m k)

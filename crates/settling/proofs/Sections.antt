@@ -34,6 +34,7 @@ use Rattle.store_view.proofs.Reading.{View, unread, as-ops, as-data, as-mark, a
 use Rattle.store_view.proofs.Soundness.{undamaged-iff}
 use Rattle.store_view.proofs.Grown.{decode-snoc, end-mono}
 use Rattle.settling.specs.Pieces.{sectionsOf, Whole, pieceOf, pieceOfSection, pieceRead, pieceAt, leastPiece}
+use Rattle.settling.specs.Words.{pieceOfWords, Readable}
 use Rattle.settling.specs.declared.piece.Piece.{Piece}
 use Rattle.settling.specs.declared.piece.Piece.the-variants as piece
 
@@ -86,39 +87,6 @@ stored-view {k} {a} {b} held at (as-data e l) u s h =
     rw t (omega (arith, s t, length-slice a b held (h t)))
 stored-view held at (as-mark n m) u s h = rw n (add-zero at)
 stored-view held at (as-reference n r) u s h = rw n (add-zero at)
-
--- an Ops or Data section that was read starts at or before its end
-abbrev Ordered : SectionRead → Type 0
-Ordered (Read (Ops s)) = s .start .0 ≤ s .end .0
-Ordered (Read (Data s)) = s .start .0 ≤ s .end .0
-Ordered (Read (Mark m)) = Unit {0}
-Ordered (Read (MarkRef r)) = Unit {0}
-Ordered Damaged = Unit {0}
-
-view-ordered : {k a b : ℕ} {v : SectionRead} → View k a b v → Ordered v
-view-ordered unread = tt
-view-ordered (as-ops e l) = l
-view-ordered (as-data e l) = l
-view-ordered (as-mark n m) = tt
-view-ordered (as-reference n r) = tt
-
--- for the code: x are the words, v is what they are read as
-module _ (words : List ℕ) (i : ℕ) (x : StoredSection) (v : SectionRead) (at : x ≡ wordsAt wordsPerSection words i) (is : v ≡ readSection x) where
-  pub piece-damaged : v ≡ Damaged → piece.Block 0 ≡ pieceAt words i
-  unfolding pieceAt
-  piece-damaged e = ap pieceRead (sym e ∙ is ∙ ap readSection at)
-
-  pub piece-read : (s : AsmSection) (p : Piece) → v ≡ Read s → p ≡ pieceOfSection s → p ≡ pieceAt words i
-  unfolding pieceAt
-  piece-read s p e h = h ∙ ap pieceRead (sym e ∙ is ∙ ap readSection at)
-
--- and its span, if it has one, is in order
-module _ (x : StoredSection) (v : SectionRead) (is : v ≡ readSection x) where
-  pub ops-ordered : (s : AsmSection) (b : BytesSpan) → v ≡ Read s → s ≡ Ops b → b .start .0 ≤ b .end .0
-  ops-ordered s b e h = subst Ordered (sym is ∙ e ∙ ap Read h) (view-ordered (view x))
-
-  pub data-ordered : (s : AsmSection) (b : BytesSpan) → v ≡ Read s → s ≡ Data b → b .start .0 ≤ b .end .0
-  data-ordered s b e h = subst Ordered (sym is ∙ e ∙ ap Read h) (view-ordered (view x))
 
 -- the last ends are within the stored bytes
 end-limit : (w : ℕ) (st : Store) (i : ℕ) → Facts w st → i ≤ st .sections → endBefore w st i ≤ st .storedBytes
@@ -294,3 +262,13 @@ module _ (store : Assembler) (held words : List ℕ) (u : Whole store held words
       let n = decode-count wordsPerSection (storeOf store held words) in
       let all : sumOf storedIn (take (length ss) ss) ≡ sumOf storedIn ss = ap (sumOf storedIn) (take-all (length ss) ss (le-refl (length ss))) in
       omega (arith, sum-mono storedIn ss i (length ss) (omega arith), stored-small .0, stored-small .1)
+
+  -- the same, where the code has the section's words
+  pub turn-words : (i : ℕ) (x : StoredSection) → i < store .sections → x ≡ wordsAt wordsPerSection words i → Turn (sectionsOf store held words) i (pieceOfWords x)
+  unfolding pieceOfWords pieceAt
+  turn-words i x l e = turn i (pieceOfWords x) l (ap pieceOfWords e)
+
+  -- they can be read
+  pub readable-words : (i : ℕ) (x : StoredSection) → i < store .sections → x ≡ wordsAt wordsPerSection words i → Readable x
+  unfolding Readable
+  readable-words i x l e = ap (λ (y : StoredSection). unreadable (readSection y)) e ∙ facts .readable i l
