@@ -1,17 +1,15 @@
 -- What the walks know of an undamaged store: its list of sections, section i as the code reads it, and that no sum of sizes is large.
 -- Assumes nothing.
-use Prim.Native.Nat.{ℕ, zero, suc, _+_, _*_, _-_, _≤_, _<_}
+use Prim.Native.Nat.{ℕ, zero, suc, _+_, _*_, _≤_, _<_}
 use native.Mathlib.Nat.{add-zero, zero-add, le-refl}
 use native.Mathlib.Numerals.{add-one}
 use native.Mathlib.Omega.{arith}
-use mathlib.Core.Path.{_≡_, refl, sym, ap, ap₂, _∙_, subst}
-use mathlib.Core.Bool.{Bool, true, false, cond, true≢false}
+use mathlib.Core.Path.{_≡_, refl, sym, ap, _∙_, subst}
+use mathlib.Core.Bool.{true, false, cond, true≢false}
 use mathlib.Core.List.{List, [], _∷_, _++_}
-use mathlib.Core.Logic.{_⊎_, inl, inr}
 use lib.ListN.{length, getD, take, drop, drop-of-length-le}
 use lib.Seq.{slice, length-slice, drop-cons, take-all}
 use Rattle.units.specs.Reference.{leastSize, size}
-use Rattle.units.specs.declared.BytesSpan.{BytesSpan}
 use Rattle.units.specs.declared.MarkId.{MarkId}
 use Rattle.units.specs.declared.AsmReference.{AsmReference}
 use Rattle.records.specs.Record.{readSection}
@@ -19,10 +17,8 @@ use Rattle.records.specs.Store.{Store, storeOf, wordsPerSection, maxBytes, maxS
 use Rattle.records.specs.Damage.{unreadable, isSpan, endBefore}
 use Rattle.records.specs.Sections.{Section, mark, ops, bytes, reference, sectionRead, decodeAt, decodeFrom, decode}
 use Rattle.records.specs.declared.Assembler.{Assembler}
-use Rattle.records.specs.declared.record.AsmSection.{AsmSection}
-use Rattle.records.specs.declared.record.AsmSection.the-variants.{Mark, Ops, Data, MarkRef}
+use Rattle.records.specs.declared.record.AsmSection.the-variants.{Mark, Ops, Data}
 use Rattle.records.specs.declared.record.SectionRead.{SectionRead}
-use Rattle.records.specs.declared.record.SectionRead.the-variants.{Read, Damaged}
 use Rattle.records.specs.declared.record.StoredSection.{StoredSection}
 use Rattle.layout.specs.Conditions.{sectionAt, sumOf, storedIn}
 use Rattle.layout.proofs.Moves.{widthBy}
@@ -33,7 +29,7 @@ use Rattle.store_view.proofs.Tests.{cond-true}
 use Rattle.store_view.proofs.Reading.{View, unread, as-ops, as-data, as-mark, as-reference, view}
 use Rattle.store_view.proofs.Soundness.{undamaged-iff}
 use Rattle.store_view.proofs.Grown.{decode-snoc, end-mono}
-use Rattle.settling.specs.Pieces.{sectionsOf, Whole, pieceOf, pieceOfSection, pieceRead, pieceAt, leastPiece}
+use Rattle.settling.specs.Pieces.{sectionsOf, Whole, pieceOf, pieceRead, pieceAt, leastPiece}
 use Rattle.settling.specs.Words.{pieceOfWords, Readable}
 use Rattle.settling.specs.declared.piece.Piece.{Piece}
 use Rattle.settling.specs.declared.piece.Piece.the-variants as piece

@@ -1,9 +1,8 @@
 -- The table of first placings less 1 is the start table where no mark is placed apart; and the first placing apart, as the walk has
 -- found it so far. Assumes nothing.
 use Prim.Native.Nat.{ℕ, zero, suc, _+_, _-_, _≤_, _<_}
-use native.Mathlib.Numerals.{add-one}
 use native.Mathlib.Omega.{arith}
-use mathlib.Core.Path.{_≡_, refl, sym, ap, ap₂, _∙_, subst}
+use mathlib.Core.Path.{_≡_, refl, sym, ap, _∙_}
 use mathlib.Core.Bool.{Bool, true, false, cond, not}
 use mathlib.Core.List.{List, [], _∷_}
 use mathlib.Core.Logic.{_⊎_, inl, inr}
@@ -14,10 +13,10 @@ use borrow.Author.Tests.{eqb-true, eqb-false, eq-eqb, ne-eqb, lt-ltb, le-ltb, lt
 use Rattle.records.specs.Damage.{leastFrom}
 use Rattle.records.specs.Sections.{Section, mark}
 use Rattle.layout.specs.Passes.{entry, startFrom}
-use Rattle.layout.specs.Conditions.{sectionAt, apartAt}
+use Rattle.layout.specs.Conditions.{apartAt}
 use Rattle.layout.proofs.Apart.{leastBefore}
 use Rattle.units.specs.declared.MarkId.{MarkId}
-use Rattle.settling.specs.Pieces.{pieceOf, shortPiece, apartPiece, placeFrom, firstSums}
+use Rattle.settling.specs.Pieces.{shortPiece, apartPiece, placeFrom, firstSums}
 use Rattle.settling.specs.Words.{placeMark, lessOne}
 use Rattle.settling.specs.declared.piece.Piece.{Piece}
 use Rattle.settling.specs.declared.piece.Piece.the-variants as piece

@@ -1,17 +1,14 @@
 -- One turn of each walk that changes the table: the table of first placings, the start table, and a pass; and what the passes come to.
 -- Each says that what remains equals the whole. Assumes nothing.
-use Prim.Native.Nat.{ℕ, zero, suc, _+_, _-_, _≤_, _<_}
+use Prim.Native.Nat.{ℕ, suc, _+_, _-_, _≤_, _<_}
 use native.Mathlib.Numerals.{add-one}
 use native.Mathlib.Omega.{arith}
 use mathlib.Core.Path.{_≡_, refl, sym, ap, ap₂, _∙_, subst}
-use mathlib.Core.Bool.{Bool, true, false, cond, not, _||_}
+use mathlib.Core.Bool.{Bool, true, false, cond, _||_}
 use mathlib.Core.List.{List, [], _∷_, _++_}
-use lib.Dec.{eqb}
-use lib.ListN.{length, getD, set, take, drop, replicate, replicate-append-replicate}
+use lib.ListN.{length, set, take, drop, replicate, replicate-append-replicate}
 use lib.Seq.{take-all, take-suc-set}
-use borrow.Author.Tests.{eq-eqb, ne-eqb}
 use Rattle.units.specs.Reference.{leastSize, size, tooNarrow, sizeFor}
-use Rattle.units.specs.Replies.{maxPasses}
 use Rattle.units.specs.declared.MarkId.{MarkId}
 use Rattle.units.specs.declared.AsmReference.{AsmReference}
 use Rattle.units.specs.declared.SizeFor.{SizeFor}
@@ -21,9 +18,8 @@ use Rattle.records.specs.Sections.{Section, mark, ops, bytes, reference}
 use Rattle.layout.specs.Passes.{entry, valueBy, startFrom, start, Walked, through, leftAt, unlike, walkFrom, pass, Settling, settled, narrowAt, unsettled, ended, passes}
 use Rattle.layout.specs.Conditions.{sectionAt}
 use Rattle.layout.proofs.Walks.{walk-mark}
-use Rattle.settling.specs.Pieces.{pieceOf, leastPiece, placeFrom, firstSums, passesReply, passesTable}
+use Rattle.settling.specs.Pieces.{leastPiece, placeFrom, firstSums, passesReply, passesTable}
 use Rattle.settling.specs.Words.{sizePiece, placeMark}
-use Rattle.settling.specs.declared.Settled.{Settled}
 use Rattle.settling.specs.declared.Settled.the-variants.{LaidOut, Refused}
 use Rattle.settling.specs.declared.piece.Piece.{Piece}
 use Rattle.settling.specs.declared.piece.Piece.the-variants as piece

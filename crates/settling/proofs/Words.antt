@@ -1,22 +1,18 @@
 -- What three words that can be read are, by the kind word, and one law for each way that the code goes by them. Assumes nothing.
-use Prim.Native.Nat.{ℕ, zero, suc, _+_, _-_, _*_, _%_, _/_, _≤_, _<_}
+use Prim.Native.Nat.{ℕ, zero, suc, _+_, _-_, _%_, _/_, _≤_, _<_}
 use native.Mathlib.Omega.{arith}
-use mathlib.Core.Path.{_≡_, refl, sym, ap, _∙_, subst}
-use mathlib.Core.Bool.{Bool, true, false, cond, not, _&&_, _||_, true≢false}
+use mathlib.Core.Path.{_≡_, refl, sym, ap, _∙_}
+use mathlib.Core.Bool.{Bool, true, false, not, _&&_, true≢false}
 use mathlib.Core.List.{List}
 use mathlib.Mathlib.Data.Bool.Basic.{or-eq-false-eq-eq-false-and-eq-false as or-false}
 use lib.Dec.{leb, ltb, eqb}
-use lib.ListN.{length}
 use borrow.Author.Tests.{leb-true, leb-false, eqb-true, eqb-false, ltb-true, ltb-false, le-leb, lt-leb, eq-eqb, ne-eqb, lt-ltb, le-ltb}
 use Rattle.units.specs.Numbers.{heldBytes}
 use Rattle.units.specs.Reference.{refSizeBytes, opBytes, leastSize, size, tooNarrow, sizeFor}
-use Rattle.units.specs.declared.MarkId.{MarkId}
-use Rattle.units.specs.declared.MarkSpan.{MarkSpan}
 use Rattle.units.specs.declared.SetSize.{SetSize}
 use Rattle.units.specs.declared.SetSize.the-variants.{Unsized, Sized}
 use Rattle.units.specs.declared.RefSize.{RefSize}
 use Rattle.units.specs.declared.RefSize.the-variants.{S1, S2, S3, S4}
-use Rattle.units.specs.declared.MarkReference.{MarkReference}
 use Rattle.units.specs.declared.MarkReference.the-variants.{Direct, Delta}
 use Rattle.units.specs.declared.AsmReference.{AsmReference}
 use Rattle.units.specs.declared.SizeFor.{SizeFor}
@@ -24,20 +20,19 @@ use Rattle.units.specs.declared.SizeFor.the-variants.{Bytes, TooNarrow}
 use Rattle.records.specs.Record.{maxMark, sizeNumber, setSizeOf, pushedNumber, deltaKind, readMark, readSpan, readDirect, readDelta, readSection}
 use Rattle.records.specs.Damage.{unreadable}
 use Rattle.records.specs.declared.record.SectionRead.{SectionRead}
-use Rattle.records.specs.declared.record.SectionRead.the-variants.{Read, Damaged}
+use Rattle.records.specs.declared.record.SectionRead.the-variants.{Damaged}
 use Rattle.records.specs.declared.record.StoredSection.{StoredSection}
-use Rattle.layout.specs.Passes.{entry, valueBy}
-use Rattle.layout.specs.Conditions.{someMark}
+use Rattle.layout.specs.Passes.{entry}
 use Rattle.store_view.proofs.Tests.{cond-case}
 use Rattle.settling.specs.Pieces.{pieceRead, shortPiece, unplacedPiece, backwardPiece, leastPiece}
 use Rattle.settling.specs.Words.{pieceOfWords, Readable, formNumber, formPiece, valuePiece, sizePiece}
 use Rattle.settling.specs.declared.piece.Piece.{Piece}
 use Rattle.settling.specs.declared.piece.Piece.the-variants as piece
 
-abbrev direct : ℕ → SetSize → Bool → AsmReference
+abbrev pub direct : ℕ → SetSize → Bool → AsmReference
 direct a s p = record { «mark_ref» = Direct (record { 0 = a }); «set_size» = s; pushed = p }
 
-abbrev delta : ℕ → ℕ → SetSize → Bool → AsmReference
+abbrev pub delta : ℕ → ℕ → SetSize → Bool → AsmReference
 delta a b s p = record { «mark_ref» = Delta (record { start = record { 0 = a }; end = record { 0 = b } }); «set_size» = s; pushed = p }
 
 -- k, a and b are the words of p
@@ -298,7 +293,7 @@ least-reference {k} {a} {b} f x (a-delta t s q d) l h g = g (delta a b s q) h
 -- ---- by the form
 
 -- a form is a set size and whether it is pushed
-form-size : (s : SetSize) (q : Bool) (f : ℕ) → f ≡ sizeNumber s + pushedNumber q → (f % 8 ≡ sizeNumber s) × (f / 8 ≡ opBytes q)
+pub form-size : (s : SetSize) (q : Bool) (f : ℕ) → f ≡ sizeNumber s + pushedNumber q → (f % 8 ≡ sizeNumber s) × (f / 8 ≡ opBytes q)
 form-size Unsized true f e = rw e (refl, refl)
 form-size Unsized false f e = rw e (refl, refl)
 form-size (Sized S1) true f e = rw e (refl, refl)

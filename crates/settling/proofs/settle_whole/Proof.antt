@@ -1,6 +1,6 @@
 -- 7, 8 and 9 by the first sections that the searches found, then the settling. The table is 0 again before 8 and 9 are answered.
 -- Assumes nothing.
-use mathlib.Core.Path.{_≡_, refl, sym, ap, ap₂, _∙_, subst}
+use mathlib.Core.Path.{sym, ap, _∙_, subst}
 use native.Mathlib.Omega.{arith}
 use Prim.Native.Nat.{ℕ, _≤_, _<_}
 use lib.ListN.{length, replicate}
@@ -11,7 +11,7 @@ use Rattle.layout.specs.Answer.{answer, settlingAnswer}
 use Rattle.settling.specs.Pieces.{sectionsOf, Fitting, firstSums}
 use Rattle.settling.specs.Settle.{settledOf, tableAfter}
 use Rattle.settling.proofs.Sections.{decode-count}
-use Rattle.settling.proofs.Compose.{Answers, answers-refused, answers-same, whole-short, none-short, whole-unplaced, whole-apart, whole-on}
+use Rattle.settling.proofs.Compose.{answers-refused, answers-same, whole-short, none-short, whole-unplaced, whole-apart, whole-on}
 use borrow.Author.Needs.{needs}
 use Rattle.settling.proofs.settle_whole.Statement.{statement}
 use Rattle.settling.proofs.settle_whole.Tie as tie

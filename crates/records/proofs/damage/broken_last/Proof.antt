@@ -1,6 +1,6 @@
 -- `broken_last` is the definition: the reading first, then the kind, then the end.
 -- Assumes nothing.
-use mathlib.Core.Path.{_≡_, sym, _∙_}
+use mathlib.Core.Path.{sym, _∙_}
 use Rattle.records.proofs.Damages.{last-unreadable, last-span, last-other}
 use borrow.Author.Needs.{needs}
 use Rattle.records.proofs.damage.broken_last.Statement.{statement}

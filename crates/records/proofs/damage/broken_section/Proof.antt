@@ -1,6 +1,6 @@
 -- `broken_section` is the definition: the reading first, then the kind, the start and, of the last with bytes, the end.
 -- Assumes nothing.
-use mathlib.Core.Path.{_≡_, sym, _∙_}
+use mathlib.Core.Path.{sym, _∙_}
 use borrow.Author.Tests.{not-true, not-false}
 use Rattle.records.proofs.Damages.{any-unreadable, any-other, any-start, any-last, any-inner}
 use borrow.Author.Needs.{needs}

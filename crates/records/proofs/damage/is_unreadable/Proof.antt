@@ -1,6 +1,6 @@
 -- `is_unreadable` is the reading of a section, by its kind.
 -- Assumes nothing.
-use mathlib.Core.Path.{_≡_, sym, _∙_}
+use mathlib.Core.Path.{sym, _∙_}
 use Rattle.records.proofs.Unreadable.{unread-span, unread-mark, unread-direct, unread-delta, unread-unlisted}
 use borrow.Author.Needs.{needs}
 use Rattle.records.proofs.damage.is_unreadable.Statement.{statement}

@@ -3,14 +3,13 @@
 use borrow.Author.Needs.{needs}
 use mathlib.Core.Path.{_≡_, refl, sym, ap, _∙_, subst}
 use native.Mathlib.Omega.{arith}
-use Prim.Native.Nat.{ℕ, _+_, _-_, _≤_, _<_}
+use Prim.Native.Nat.{ℕ, _+_, _-_, _≤_}
 use mathlib.Core.Logic.{⊎-elim}
-use lib.ListN.{length, set, length-set}
+use lib.ListN.{length, length-set}
 use denote.Ref.{now}
 use Rattle.records.specs.Store.{storeOf, wordsPerSection}
-use mathlib.Core.Bool.{Bool, false}
+use mathlib.Core.Bool.{false}
 use lib.ListN.{replicate, length-replicate}
-use Rattle.settling.specs.declared.Settled.{Settled}
 use Rattle.settling.specs.declared.Settled.the-variants.{Refused}
 use borrow.Author.Tests.{not-true, not-false}
 use Rattle.units.specs.Replies.{maxPasses}
@@ -18,8 +17,8 @@ use Rattle.units.specs.declared.reply.Refusal.{Refusal}
 use Rattle.layout.specs.Passes.{walkFrom, pass, passes}
 use lib.ListN.{drop}
 use Rattle.settling.specs.Pieces.{sectionsOf, passesReply, passesTable}
-use Rattle.settling.proofs.Sections.{decode-count, words-fit, turn-words, readable-words, Room, room-mark, room-block, room-size, room-small}
-use Rattle.settling.proofs.Searches.{in-table, mark-in, reference-in}
+use Rattle.settling.proofs.Sections.{decode-count, words-fit, turn-words, readable-words, Room, room-mark, room-small}
+use Rattle.settling.proofs.Searches.{in-table, mark-in}
 use Rattle.settling.proofs.Turns.{Left, pass-start, pass-next, turn-mark, turn-other, turn-left, room-other, settles-narrow, settles-calm, settles-on, settles-out, reply-settled, reply-narrow, reply-out}
 use Rattle.settling.specs.Words.{pieceOfWords}
 use Rattle.settling.specs.Pieces.{shortPiece}

@@ -1,6 +1,6 @@
 -- `size_for` is the definition, by the form.
 -- Assumes nothing.
-use mathlib.Core.Path.{_≡_, sym, ap, _∙_}
+use mathlib.Core.Path.{_≡_, ap, _∙_}
 use Rattle.units.specs.Numbers.{heldBytes}
 use Prim.Native.Nat.{ℕ, _+_, _%_, _/_, _<_, _≤_}
 use mathlib.Core.Path.{subst}

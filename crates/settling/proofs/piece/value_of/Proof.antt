@@ -1,8 +1,8 @@
 -- `value_of` is the definition, by the kind word; an end below its start is 0 by subtraction.
 -- Assumes nothing.
-use mathlib.Core.Path.{_≡_, sym, ap, _∙_}
+use mathlib.Core.Path.{_≡_, _∙_}
 use native.Mathlib.Omega.{arith}
-use Prim.Native.Nat.{ℕ, _-_, _≤_, _<_}
+use Prim.Native.Nat.{ℕ, _-_}
 use denote.Ref.{now}
 use Rattle.layout.specs.Passes.{entry}
 use Rattle.settling.proofs.Words.{kind-of, first-in, second-in, value-direct, value-delta}

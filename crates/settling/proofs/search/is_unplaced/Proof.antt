@@ -1,7 +1,6 @@
 -- `is_unplaced` is the definition, by the kind word.
 -- Assumes nothing.
 use native.Mathlib.Omega.{arith}
-use Prim.Native.Nat.{ℕ, _≤_, _<_}
 use Rattle.settling.proofs.Words.{kind-of, first-in, second-in, unplaced-none, unplaced-first, unplaced-one, unplaced-second}
 use borrow.Author.Needs.{needs}
 use Rattle.settling.proofs.search.is_unplaced.Statement.{statement}

@@ -1,13 +1,13 @@
 -- The invariant: what remains, from the table and the sum as they are, comes to the whole table of first placings; so does the start table, from
 -- the table less 1, as long as no placing apart was found; and the first such so far. The measure is what is left. Assumes nothing.
 use borrow.Author.Needs.{needs}
-use mathlib.Core.Path.{_≡_, refl, sym, ap, ap₂, _∙_, subst}
+use mathlib.Core.Path.{_≡_, refl, sym, ap, ap₂, _∙_}
 use native.Mathlib.Omega.{arith}
 use mathlib.Core.List.{List}
 use Prim.Native.Nat.{ℕ, _+_, _-_, _≤_, _<_}
 use mathlib.Core.Logic.{⊎-elim}
 use mathlib.Core.Bool.{false}
-use lib.ListN.{length, drop, length-set}
+use lib.ListN.{length, drop}
 use denote.Ref.{now}
 use Rattle.records.specs.Store.{storeOf, wordsPerSection}
 use Rattle.layout.specs.Passes.{startFrom, start as start-table}
@@ -15,7 +15,7 @@ use Rattle.layout.specs.Conditions.{apartAt, sumOf}
 use Rattle.layout.proofs.Apart.{leastBefore}
 use Rattle.settling.specs.Pieces.{sectionsOf, leastPiece, placeFrom, firstSums}
 use Rattle.settling.specs.Words.{placeMark, lessOne}
-use Rattle.settling.proofs.Sections.{decode-count, words-fit, turn-words, readable-words, Room, room-mark, room-least, room-small, least-next}
+use Rattle.settling.proofs.Sections.{decode-count, words-fit, turn-words, readable-words, room-mark, room-least, room-small, least-next}
 use Rattle.settling.proofs.Searches.{in-table, mark-in, apart-first}
 use Rattle.settling.proofs.Words.{kind-of, as-mark, not-mark}
 use Rattle.settling.proofs.Turns.{Walk, walk-next, place-start, place-at, place-other, place-done, start-start, start-other, start-done}
