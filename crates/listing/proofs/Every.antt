@@ -106,7 +106,7 @@ module _ (w : ℕ) (st : Store) where
         omega (arith, length-append (sectionText (decodeAt w st i)) (listing (decodeFrom w st k (suc i))), at-length i (omega arith), from-length k (suc i) (omega arith))
 
     -- the listing's length is far below 2 ^ 64
-    pub listing-short : length (listing (decode w st)) < 2 ^ 64
+    pub listing-short : length (listing (decode w st)) ≤ 2 ^ 50
     unfolding decode
     listing-short = omega (arith, from-length (st .sections) 0 (omega arith), facts .sectionsLimit)
 

@@ -1,0 +1,33 @@
+-- What `push_op_byte` answers, as a number.
+-- Assumes nothing.
+use borrow.Author.Needs.{needs}
+use denote.Ref.{now}
+use Rattle.store.specs.Calls.{pushOpByte}
+use Rattle.sadrokki.proofs.Answers.{built-packs, built-both}
+use Rattle.sadrokki.proofs.building.sadrokki_push_op_byte.Statement.{statement}
+use Rattle.sadrokki.proofs.building.sadrokki_push_op_byte.Tie as tie
+
+counts-in-requires : tie.Need-counts-in-requires
+counts-in-requires c κs = search needs
+
+push-op-byte-requires : tie.Need-push-op-byte-requires
+push-op-byte-requires c κs = search needs
+
+built-number-requires : tie.Need-built-number-requires
+built-number-requires c κs =
+    let a = c .before .before .before .before .before .before .before .before .before .before .args in
+    built-packs (pushOpByte (a .byte)) (now (a .bytes)) (now (a .words)) _ _ (c .before .before .before .before .push-op-byte .ensures .0)
+
+same-length : tie.Need-same-length
+same-length c = search needs
+
+same-length-2 : tie.Need-same-length-2
+same-length-2 c = search needs
+
+returns : tie.Need-returns
+returns c =
+    let a = c .before .before .before .before .before .before .before .before .before .before .before .args in
+    built-both (pushOpByte (a .byte)) (now (a .bytes)) (now (a .words)) (a .state) _ (c .before .before .before .before .before .before .before .before .counts-in .ensures) _ _ _ (c .before .before .before .before .before .push-op-byte .ensures) (c .built-number .ensures)
+
+pub sadrokki-push-op-byte-spec : {M : Type 1} → statement M
+sadrokki-push-op-byte-spec = tie.close (tie.spec counts-in-requires push-op-byte-requires built-number-requires same-length same-length-2 returns)

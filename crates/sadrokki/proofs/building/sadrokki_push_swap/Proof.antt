@@ -1,0 +1,33 @@
+-- What `push_swap` answers, as a number.
+-- Assumes nothing.
+use borrow.Author.Needs.{needs}
+use denote.Ref.{now}
+use Rattle.store.specs.Calls.{pushSwap}
+use Rattle.sadrokki.proofs.Answers.{built-packs, built-both}
+use Rattle.sadrokki.proofs.building.sadrokki_push_swap.Statement.{statement}
+use Rattle.sadrokki.proofs.building.sadrokki_push_swap.Tie as tie
+
+counts-in-requires : tie.Need-counts-in-requires
+counts-in-requires c κs = search needs
+
+push-swap-requires : tie.Need-push-swap-requires
+push-swap-requires c κs = search needs
+
+built-number-requires : tie.Need-built-number-requires
+built-number-requires c κs =
+    let a = c .before .before .before .before .before .before .before .before .before .before .args in
+    built-packs (pushSwap (a .depth)) (now (a .bytes)) (now (a .words)) _ _ (c .before .before .before .before .push-swap .ensures .0)
+
+same-length : tie.Need-same-length
+same-length c = search needs
+
+same-length-2 : tie.Need-same-length-2
+same-length-2 c = search needs
+
+returns : tie.Need-returns
+returns c =
+    let a = c .before .before .before .before .before .before .before .before .before .before .before .args in
+    built-both (pushSwap (a .depth)) (now (a .bytes)) (now (a .words)) (a .state) _ (c .before .before .before .before .before .before .before .before .counts-in .ensures) _ _ _ (c .before .before .before .before .before .push-swap .ensures) (c .built-number .ensures)
+
+pub sadrokki-push-swap-spec : {M : Type 1} → statement M
+sadrokki-push-swap-spec = tie.close (tie.spec counts-in-requires push-swap-requires built-number-requires same-length same-length-2 returns)

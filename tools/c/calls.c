@@ -1,0 +1,86 @@
+/* Calls every function of sadrokki.h once or more and compares the answers: the header's types and order of arguments are
+ * those of the archive. Exit status 0, or 1 after the first line that differs. */
+#include "sadrokki.h"
+#include <stdio.h>
+#include <stdlib.h>
+#include <string.h>
+
+#define SAME(a, b) same(__LINE__, (uint64_t)(a), (uint64_t)(b))
+#define ANSWER(number, mid, low) ((uint64_t)(number) << 56 | (uint64_t)(mid) << 32 | (low))
+#define STORE state, bytes, sizeof bytes, words, sizeof words / sizeof *words
+
+static void same(int line, uint64_t a, uint64_t b) {
+    if (a == b) return;
+    fprintf(stderr, "calls.c:%d: %016llx is not %016llx\n", line, (unsigned long long)a, (unsigned long long)b);
+    exit(1);
+}
+
+int main(void) {
+    uint8_t bytes[64], code[64], text[256], name[14];
+    uint32_t words[3 * 16], table[2];
+    const uint8_t data[] = {0xaa, 0xbb};
+    uint8_t word[32] = {0};
+    word[30] = 0x12;
+    word[31] = 0x34;
+
+    /* Document 01's line 12, after a clear. */
+    uint64_t state = sadrokki_push_data(sadrokki_new(), bytes, 64, words, 48, data, 2);
+    SAME(state, ANSWER(0, 1, 2));
+    state = sadrokki_clear(state);
+    SAME(state, 0);
+    state = sadrokki_push_mark(STORE, 0);
+    state = sadrokki_push_op_byte(STORE, 0x5b);
+    state = sadrokki_push_direct(STORE, 1, 8);
+    state = sadrokki_push_op_byte(STORE, 0x56);
+    state = sadrokki_push_mark(STORE, 1);
+    state = sadrokki_push_op_byte(STORE, 0x5b);
+    state = sadrokki_push_data(STORE, data, 2);
+    state = sadrokki_push_delta(STORE, 0, 1, 2);
+    SAME(state, ANSWER(0, 8, 5));
+    memset(code, 0xee, sizeof code);
+    SAME(sadrokki_assemble(STORE, table, 2, code, 64, 1), ANSWER(0, 2, 9));
+    SAME(memcmp(code, "\xee\x5b\x60\x04\x56\x5b\xaa\xbb\x00\x04\xee", 11), 0);
+    SAME(table[0], 0);
+    SAME(table[1], 4);
+    SAME(sadrokki_lands(code, 64, 1), 1);
+    SAME(sadrokki_lands(code, 64, 2), 0);
+    SAME(sadrokki_assemble(STORE, table, 1, code, 64, 0), ANSWER(7, 0, 2));
+    SAME(sadrokki_assemble(STORE, table, 2, code, 8, 0), ANSWER(13, 2, 0));
+    const char *listing = ".mark0:\n  JUMPDEST\n  PUSH .mark1\n  JUMP\n.mark1:\n  JUMPDEST\n  data 0xaabb (2 bytes)\n  RAW (.mark1 - .mark0):2\n";
+    SAME(sadrokki_write_asm(STORE, text, sizeof text), strlen(listing));
+    SAME(memcmp(text, listing, strlen(listing)), 0);
+    SAME(sadrokki_write_asm(STORE, text, 3), ANSWER(14, 0, 0));
+
+    /* Op bytes in one section: SWAP3, DUP3, SWAP1 SWAP2 SWAP1, PUSH2 1234, PUSH5, PUSH1. */
+    state = 0;
+    state = sadrokki_push_swap(STORE, 3);
+    state = sadrokki_push_dup(STORE, 2);
+    state = sadrokki_push_exchange(STORE, 1, 2);
+    state = sadrokki_push_minimal_u256(STORE, word, 32);
+    state = sadrokki_push_minimal_u64(STORE, 0x100000000);
+    state = sadrokki_push_minimal_u32(STORE, 7);
+    SAME(state, ANSWER(0, 1, 16));
+    SAME(memcmp(bytes, "\x92\x82\x90\x91\x90\x61\x12\x34\x64\x01\x00\x00\x00\x00\x60\x07", 16), 0);
+
+    /* Refusals, and arguments that name nothing. */
+    SAME(sadrokki_push_swap(STORE, 0), ANSWER(1, 0, 0));
+    SAME(sadrokki_push_minimal_u256(STORE, word, 31), ANSWER(2, 0, 0));
+    SAME(sadrokki_push_mark(STORE, 1048576), ANSWER(3, 0, 0));
+    SAME(sadrokki_push_direct(STORE, 0, 7), ANSWER(255, 0, 0));
+    SAME(sadrokki_push_delta(STORE, 0, 0, 13), ANSWER(255, 0, 0));
+    state = ANSWER(1, 0, 0);
+    SAME(sadrokki_push_mark(STORE, 0), ANSWER(6, 0, 0));
+
+    SAME(sadrokki_op_name(0x5b, name, 14), 8);
+    SAME(memcmp(name, "JUMPDEST", 8), 0);
+    SAME(sadrokki_op_name(0x5b, name, 7), ANSWER(255, 0, 0));
+    SAME(sadrokki_push_size(0x7f), 32);
+    SAME(sadrokki_push_size(0x5f), 0);
+    SAME(sadrokki_bytes_to_hold(256), 2);
+    SAME(sadrokki_size_for(8, 0), 1);
+    SAME(sadrokki_size_for(9, 256), ANSWER(10, 0, 0));
+    SAME(sadrokki_size_for(7, 0), ANSWER(255, 0, 0));
+    SAME(sadrokki_least_size(10), 3);
+    SAME(sadrokki_least_size(5), ANSWER(255, 0, 0));
+    return 0;
+}

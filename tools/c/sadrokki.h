@@ -1,0 +1,66 @@
+/* The exported functions of crates/sadrokki, for C. What each answers is stated and proved in crates/sadrokki/src.
+ *
+ * A slice is two arguments, a pointer and a length in elements, in that order. The pointer isn't NULL, also for length 0;
+ * a slice that isn't const overlaps none of the call's others. Nothing else is asked of an argument.
+ *
+ * State: sections * 2^32 + stored bytes; sadrokki_new() is the empty one.
+ * Answer: number * 2^56 + mid * 2^32 + low.
+ *   number 0, accepted: a building call's answer is the next state; assemble: mid = passes, low = code length;
+ *     write_asm: the whole answer is the text's length; op_name, size_for, least_size: low = bytes.
+ *   number 1 to 14, a refusal of document 01: mid = passes, low = section.
+ *   number 255: an argument names nothing; nothing changed.
+ * Either, taken as a state, is answered with 6 by every call that doesn't refuse for its own arguments, so that a caller may
+ * look at the last answer alone.
+ * Form of a reference: set size (0 unsized, else 1 to 4) plus 8 if pushed. */
+#ifndef SADROKKI_H
+#define SADROKKI_H
+
+#include <stddef.h>
+#include <stdint.h>
+
+#define SADROKKI_NUMBER(answer) ((uint32_t)((answer) >> 56))
+#define SADROKKI_MID(answer) ((uint32_t)((answer) >> 32 & 0xffffff))
+#define SADROKKI_LOW(answer) ((uint32_t)(answer))
+#define SADROKKI_PUSHED 8
+
+#ifdef __cplusplus
+extern "C" {
+#endif
+
+uint64_t sadrokki_new(void);
+uint64_t sadrokki_clear(uint64_t state);
+
+uint64_t sadrokki_push_mark(uint64_t state, const uint8_t *bytes, size_t bytes_len, uint32_t *words, size_t words_len, uint32_t mark);
+uint64_t sadrokki_push_op_byte(uint64_t state, uint8_t *bytes, size_t bytes_len, uint32_t *words, size_t words_len, uint8_t byte);
+uint64_t sadrokki_push_swap(uint64_t state, uint8_t *bytes, size_t bytes_len, uint32_t *words, size_t words_len, uint8_t depth);
+uint64_t sadrokki_push_dup(uint64_t state, uint8_t *bytes, size_t bytes_len, uint32_t *words, size_t words_len, uint8_t depth);
+uint64_t sadrokki_push_exchange(uint64_t state, uint8_t *bytes, size_t bytes_len, uint32_t *words, size_t words_len, uint8_t n, uint8_t m);
+uint64_t sadrokki_push_minimal_u256(uint64_t state, uint8_t *bytes, size_t bytes_len, uint32_t *words, size_t words_len, const uint8_t *word, size_t word_len);
+uint64_t sadrokki_push_minimal_u64(uint64_t state, uint8_t *bytes, size_t bytes_len, uint32_t *words, size_t words_len, uint64_t value);
+uint64_t sadrokki_push_minimal_u32(uint64_t state, uint8_t *bytes, size_t bytes_len, uint32_t *words, size_t words_len, uint32_t value);
+uint64_t sadrokki_push_data(uint64_t state, uint8_t *bytes, size_t bytes_len, uint32_t *words, size_t words_len, const uint8_t *data, size_t data_len);
+uint64_t sadrokki_push_direct(uint64_t state, const uint8_t *bytes, size_t bytes_len, uint32_t *words, size_t words_len, uint32_t mark, uint32_t form);
+uint64_t sadrokki_push_delta(uint64_t state, const uint8_t *bytes, size_t bytes_len, uint32_t *words, size_t words_len, uint32_t start, uint32_t end, uint32_t form);
+
+/* The code into result from position on, the marks' offsets into table. */
+uint64_t sadrokki_assemble(uint64_t state, const uint8_t *bytes, size_t bytes_len, const uint32_t *words, size_t words_len, uint32_t *table, size_t table_len, uint8_t *result, size_t result_len, size_t position);
+/* The listing to the start of text. */
+uint64_t sadrokki_write_asm(uint64_t state, const uint8_t *bytes, size_t bytes_len, const uint32_t *words, size_t words_len, uint8_t *text, size_t text_len);
+
+/* 1 if a jump may land at offset, else 0. */
+uint32_t sadrokki_lands(const uint8_t *code, size_t code_len, size_t offset);
+/* The name of an opcode into the first bytes of name; 14 hold every name. */
+uint64_t sadrokki_op_name(uint8_t byte, uint8_t *name, size_t name_len);
+/* The immediate's bytes of PUSH1 to PUSH32, 0 for every other byte. */
+uint32_t sadrokki_push_size(uint8_t byte);
+/* The bytes that hold a value, 1 to 4. */
+uint32_t sadrokki_bytes_to_hold(uint32_t value);
+/* The size of a reference of this form for a value (10 if it is too narrow), and its least size. */
+uint64_t sadrokki_size_for(uint32_t form, uint32_t value);
+uint64_t sadrokki_least_size(uint32_t form);
+
+#ifdef __cplusplus
+}
+#endif
+
+#endif

@@ -1,0 +1,224 @@
+//! The wrapper on document 01's hand layouts, and where its slices have to grow.
+
+use sadrokki::*;
+
+enum Call {
+    Mark(u32),
+    Op(u8),
+    Data(usize),
+    Bytes(&'static [u8]),
+    Direct(u32, Option<RefSize>, bool),
+    Delta(u32, u32, Option<RefSize>, bool),
+}
+use Call::*;
+
+fn built(calls: &[Call]) -> Assembler {
+    let mut asm = Assembler::with_capacity(0, 0);
+    for call in calls {
+        match *call {
+            Mark(mark) => asm.push_mark(MarkId::new(mark)),
+            Op(byte) => asm.push_op_byte(byte),
+            Data(count) => asm.push_data(&vec![0xdd; count]),
+            Bytes(data) => asm.push_data(data),
+            Direct(mark, set_size, pushed) => asm.push_reference(AsmReference {
+                mark_ref: MarkReference::Direct(MarkId::new(mark)),
+                set_size,
+                pushed,
+            }),
+            Delta(start, end, set_size, pushed) => asm.push_reference(AsmReference {
+                mark_ref: MarkReference::Delta(Span::new(MarkId::new(start), MarkId::new(end))),
+                set_size,
+                pushed,
+            }),
+        }
+    }
+    asm
+}
+
+fn code(calls: &[Call]) -> Result<Vec<u8>, AssembleError> {
+    let mut result = vec![0xee];
+    built(calls)
+        .assemble(&mut result, None)
+        .map(|_| result.split_off(1))
+}
+
+fn refused(number: u32, section: usize, passes: u32) -> Result<Vec<u8>, AssembleError> {
+    Err(AssembleError::Refused {
+        number,
+        section,
+        passes,
+    })
+}
+
+#[test]
+fn lines_1_to_10() {
+    let pushed = Direct(0, None, true);
+    assert_eq!(code(&[]), Ok(vec![]));
+    assert_eq!(code(&[Mark(0), pushed]), Ok(vec![0x5f]));
+    assert_eq!(code(&[Mark(0), Direct(0, None, false)]), Ok(vec![0]));
+    assert_eq!(
+        code(&[Mark(0), Direct(0, Some(RefSize::S1), true)]),
+        Ok(vec![0x60, 0])
+    );
+    assert_eq!(
+        code(&[Direct(0, None, true), Mark(0), Op(0x5b)]),
+        Ok(vec![0x60, 2, 0x5b])
+    );
+    let short = [vec![0x60, 0xff], vec![0xdd; 253]].concat();
+    assert_eq!(
+        code(&[Direct(0, None, true), Data(253), Mark(0)]),
+        Ok(short)
+    );
+    let long = [vec![0x61, 1, 1], vec![0xdd; 254]].concat();
+    assert_eq!(code(&[Direct(0, None, true), Data(254), Mark(0)]), Ok(long));
+    let narrow = code(&[Direct(0, Some(RefSize::S1), true), Data(254), Mark(0)]);
+    assert_eq!(narrow, Err(AssembleError::RefHasTooSmallSetSize(0)));
+    let ends = |start, end| {
+        [
+            Mark(0),
+            Bytes(&[0xaa, 0xbb]),
+            Mark(1),
+            Delta(start, end, None, true),
+        ]
+    };
+    assert_eq!(code(&ends(0, 1)), Ok(vec![0xaa, 0xbb, 0x60, 2]));
+    assert_eq!(code(&ends(1, 0)), refused(12, 3, 1));
+    assert_eq!(code(&[Mark(0), Mark(0)]), Ok(vec![]));
+    assert_eq!(code(&[Mark(0), Op(0x5b), Mark(0)]), refused(9, 2, 0));
+}
+
+/// N pushed references to marks N down to 1, P data bytes, then the marks with a data byte between neighbours.
+fn line_11(n: u32, p: usize) -> Vec<Call> {
+    let mut calls: Vec<Call> = (1..=n).rev().map(|mark| Direct(mark, None, true)).collect();
+    calls.push(Data(p));
+    calls.extend((1..=n).rev().flat_map(|mark| [Mark(mark), Data(1)]));
+    calls.pop();
+    calls
+}
+
+#[test]
+fn line_11_settles_or_not() {
+    assert!(code(&line_11(1022, 61449)).is_ok());
+    assert_eq!(code(&line_11(1023, 61445)), refused(11, 0, 1024));
+}
+
+#[test]
+fn line_12_is_shown() {
+    let asm = built(&[
+        Mark(0),
+        Op(0x5b),
+        Direct(1, None, true),
+        Op(0x56),
+        Mark(1),
+        Op(0x5b),
+        Bytes(&[0xaa, 0xbb]),
+        Delta(0, 1, Some(RefSize::S2), false),
+    ]);
+    let mut result = Vec::new();
+    let offsets = asm.assemble(&mut result, Some(0)).unwrap();
+    assert_eq!(result, [0x5b, 0x60, 4, 0x56, 0x5b, 0xaa, 0xbb, 0, 4]);
+    assert_eq!((offsets[MarkId::new(0)], offsets[MarkId::new(1)]), (0, 4));
+    assert!(op::lands(&result, 4) && !op::lands(&result, 5));
+    let text = "\
+.mark0:
+  JUMPDEST
+  PUSH .mark1
+  JUMP
+.mark1:
+  JUMPDEST
+  data 0xaabb (2 bytes)
+  RAW (.mark1 - .mark0):2
+";
+    assert_eq!(asm.to_string(), text);
+}
+
+#[test]
+fn slices_grow() {
+    // References alone, so that the first room is too short; names longer than the first text.
+    let references: Vec<Call> = (0..500)
+        .map(|_| Direct(999_999, Some(RefSize::S4), true))
+        .collect();
+    let mut asm = built(&references);
+    let mut result = vec![1, 2, 3];
+    let unplaced = AssembleError::Refused {
+        number: 8,
+        section: 0,
+        passes: 0,
+    };
+    assert_eq!(asm.assemble(&mut result, None), Err(unplaced));
+    assert_eq!(result, [1, 2, 3]);
+    asm.push_mark(MarkId::new(999_999));
+    let offsets = asm.assemble(&mut result, None).unwrap();
+    assert_eq!(
+        (result.len(), &result[..5]),
+        (2503, &[1, 2, 3, 0x63, 0][..])
+    );
+    assert_eq!(offsets[MarkId::new(999_999)], 2500);
+    assert_eq!(
+        asm.to_string(),
+        "  PUSH .mark999999:4\n".repeat(500) + ".mark999999:\n"
+    );
+    // Bytes up to the limit, and not past it.
+    asm.clear();
+    asm.push_data(&vec![7; 1 << 24]);
+    assert_eq!(
+        asm.assemble(&mut result, None).map(|_| result.len()),
+        Ok(2503 + (1 << 24))
+    );
+    let past = std::panic::catch_unwind(move || asm.push_op_byte(0));
+    assert_eq!(
+        past.unwrap_err().downcast_ref::<String>().unwrap(),
+        "refused with number 4: bytes full"
+    );
+}
+
+#[test]
+fn op_bytes() {
+    let mut asm = Assembler::with_capacity(1, 1);
+    asm.push_swap(16);
+    asm.push_dup(0);
+    asm.push_exchange(0, 3);
+    asm.push_exchange(1, 2);
+    asm.push_minimal_u32(0);
+    asm.push_minimal_u64(0x0102_0304_0506);
+    asm.push_minimal_u256(U256([0xff; 32]));
+    let mut result = Vec::new();
+    asm.assemble(&mut result, None).unwrap();
+    let start = [
+        0x9f, 0x80, 0x92, 0x90, 0x91, 0x90, 0x5f, 0x65, 1, 2, 3, 4, 5, 6, 0x7f,
+    ];
+    assert_eq!(result, [&start[..], &[0xff; 32]].concat());
+    assert_eq!(
+        (
+            op::name(0x5b),
+            op::name(0x0c),
+            op::push_size(0x7f),
+            op::push_size(0x5f)
+        ),
+        ("JUMPDEST", "UNKNOWN", Some(32), None)
+    );
+}
+
+#[test]
+fn refusals_panic() {
+    let calls: [(u32, fn(&mut Assembler)); 5] = [
+        (1, |asm| asm.push_swap(0)),
+        (1, |asm| asm.push_dup(16)),
+        (1, |asm| asm.push_exchange(2, 17)),
+        (3, |asm| asm.push_mark(MarkId::new(1 << 20))),
+        (3, |asm| {
+            asm.push_reference(AsmReference::new_delta(
+                MarkId::new(0),
+                MarkId::new(1 << 20),
+            ))
+        }),
+    ];
+    for (number, call) in calls {
+        let panic = std::panic::catch_unwind(|| call(&mut built(&[]))).unwrap_err();
+        let message = panic.downcast_ref::<String>().unwrap();
+        assert!(
+            message.starts_with(&format!("refused with number {number}: ")),
+            "{message}"
+        );
+    }
+}
