@@ -48,5 +48,5 @@ rustc $flags --check-cfg 'cfg(original)' $linked -l static=sadrokki "$here/bench
 "$out/bench" ${2:+"$2"}
 
 if [ -x "$root/tools/c/run.sh" ]; then
-    "$root/tools/c/run.sh"
+    "$root/tools/c/run.sh" "$out/libsadrokki.a"
 fi
