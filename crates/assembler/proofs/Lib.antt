@@ -8,3 +8,4 @@ pub mod Answers
 pub mod Assembles
 pub mod Leaves
 pub mod Hand
+pub mod Words

@@ -1,38 +1,33 @@
 -- Laws for the code that writes: one for each way that it goes, on plain variables. Assumes nothing.
-use Prim.Native.Nat.{ℕ, suc, _+_, _-_, _≤_, _<_}
+use Prim.Native.Nat.{ℕ, zero, suc, _+_, _-_, _%_, _≤_, _<_}
 use native.Mathlib.Omega.{arith}
 use native.Mathlib.Numerals.{add-one}
 use native.Mathlib.Nat.{add-zero, sub-zero}
 use mathlib.Core.Path.{_≡_, refl, sym, _∙_, ap, subst}
 use mathlib.Core.Bool.{Bool, true, false, false≢true}
 use mathlib.Core.List.{List, [], _∷_, _++_}
-use lib.Dec.{ltb, eqb}
+use lib.Dec.{ltb}
 use lib.ListN.{length, getD, set, length-append}
 use lib.Seq.{slice, slice-cons}
 use borrow.Author.Tests.{lt-ltb, le-ltb}
-use Rattle.units.specs.Numbers.{heldBytes, bigEndian}
-use Rattle.units.specs.declared.SetSize.{SetSize}
-use Rattle.units.specs.declared.SetSize.the-variants.{Unsized}
+use Rattle.units.specs.Numbers.{bigEndian}
 use Rattle.units.specs.declared.MarkId.{MarkId}
-use Rattle.units.specs.declared.MarkSpan.{MarkSpan}
-use Rattle.units.specs.declared.MarkReference.{MarkReference}
-use Rattle.units.specs.declared.MarkReference.the-variants.{Direct, Delta}
 use Rattle.units.specs.declared.AsmReference.{AsmReference}
 use Rattle.units.proofs.BigEndian.{length-bigEndian}
 use Rattle.records.specs.Record.{readSection}
 use Rattle.records.specs.Store.{Store, sectionWords}
-use Rattle.records.specs.Sections.{sectionOf, decodeAt, decodeFrom, decode}
-use Rattle.records.specs.declared.record.AsmSection.{AsmSection}
+use Rattle.records.specs.Sections.{decodeAt, decodeFrom, decode, sectionRead}
+use Rattle.records.specs.declared.record.StoredSection.{StoredSection}
 use Rattle.records.specs.declared.record.AsmSection.the-variants.{Mark}
 use Rattle.records.specs.declared.record.SectionRead.{SectionRead}
-use Rattle.records.specs.declared.record.SectionRead.the-variants.{Read, Damaged}
+use Rattle.records.specs.declared.record.SectionRead.the-variants.{Read}
 use Rattle.store.specs.Calls.{over}
 use Rattle.store_view.proofs.Over.{length-over}
-use Rattle.layout.specs.Passes.{entry, valueBy}
+use Rattle.layout.specs.Passes.{entry}
 use Rattle.emission.specs.Emission.{byteCount, isPushZero, opcode, referenceBytes, sectionBytes, inARow, codeOf}
 use Rattle.emission.proofs.Rows.{over-nothing, over-next, over-one}
 use Rattle.assembler.specs.Assemble.{isFull}
-use Rattle.assembler.specs.Writing.{MarksIn, Writable, WritableRead}
+use Rattle.assembler.specs.Writing.{WritableRead}
 
 -- ---- 13
 
@@ -45,31 +40,6 @@ pub full-length : (room position size : ℕ) → position ≤ room → ltb (room
 full-length room position size h = rw (le-ltb room position h)
 
 -- ---- the parts of a reference
-
--- pushed and unsized: 5f for 0
-pub push-zero : (s : SetSize) (p : Bool) (v : ℕ) → s ≡ Unsized → p ≡ true → eqb v 0 ≡ isPushZero s p v
-push-zero s p v e f = rw (e, f)
-
--- unsized: the held bytes
-pub count-unsized : (s : SetSize) (v n : ℕ) → s ≡ Unsized → n ≡ heldBytes v → n ≡ byteCount s v
-count-unsized s v n e h = rw e h
-
-module _ (table : List ℕ) (r : MarkReference) (given : MarksIn table r) where
-  -- a direct reference's mark is in the table
-  pub direct-in : (m : MarkId) → r ≡ Direct m → m .0 < length table
-  direct-in m e = subst (MarksIn table) e given
-
-  -- so are a delta's, and its end isn't below its start
-  pub delta-in : (d : MarkSpan) → r ≡ Delta d → MarksIn table (Delta d)
-  delta-in d e = subst (MarksIn table) e given
-
--- a direct reference's value is its mark's entry
-pub value-direct : (table : List ℕ) (r : MarkReference) (m : MarkId) → r ≡ Direct m → entry table (m .0) ≡ valueBy (entry table) r
-value-direct table r m e = rw e
-
--- a delta's is the difference
-pub value-delta : (table : List ℕ) (r : MarkReference) (d : MarkSpan) → r ≡ Delta d → entry table (d .end .0) - entry table (d .start .0) ≡ valueBy (entry table) r
-value-delta table r d e = rw e
 
 -- the opcode of a pushed reference is one byte
 pub opcode-pushed : (p : Bool) (n i : ℕ) (old : List ℕ) → p ≡ true → i + length (opcode p n) ≤ length old
@@ -124,6 +94,23 @@ module _ (r : AsmReference) (v x : ℕ) (same : x ≡ v) where
               ∙ ap (over old i) (sym reference-parts),
         )
 
+-- ---- a value
+
+-- one byte
+pub digit-one : (old : List ℕ) (i v : ℕ) → i < length old → set old i (v % 256) ≡ over old i (bigEndian 1 v)
+unfolding bigEndian
+digit-one old i v h = over-one old i (v % 256) h
+
+-- so many bytes, none
+pub digits-none : (old : List ℕ) (i n v : ℕ) → n ≤ 4 → (n ≡ 1 → ⊥) → (n ≡ 2 → ⊥) → (n ≡ 3 → ⊥) → (n ≡ 4 → ⊥) → old ≡ over old i (bigEndian n v)
+unfolding bigEndian
+digits-none old i zero v l a b c d = sym (over-nothing old i)
+digits-none old i (suc zero) v l a b c d = absurd (a refl)
+digits-none old i (suc (suc zero)) v l a b c d = absurd (b refl)
+digits-none old i (suc (suc (suc zero))) v l a b c d = absurd (c refl)
+digits-none old i (suc (suc (suc (suc zero)))) v l a b c d = absurd (d refl)
+digits-none old i (suc (suc (suc (suc (suc n))))) v l a b c d = absurd (omega arith)
+
 -- ---- a section
 
 -- one byte of a span written, and the others to be written after it
@@ -138,24 +125,23 @@ span-step bytes old i end at l h r =
 
 module _ (bytes table old : List ℕ) (i : ℕ) where
   -- what writing a section asks
-  abbrev pub Asks : AsmSection → Type 0
-  Asks x = Writable bytes table x × (i + length (sectionBytes (entry table) (sectionOf bytes x)) ≤ length old)
+  abbrev pub Asks : SectionRead → Type 0
+  Asks v = WritableRead bytes table v × (i + length (sectionBytes (entry table) (sectionRead bytes v)) ≤ length old)
 
   -- and what it does
-  abbrev pub Does : AsmSection → ℕ → List ℕ → Type 0
-  Does x next new = (next ≡ i + length (sectionBytes (entry table) (sectionOf bytes x))) × (new ≡ over old i (sectionBytes (entry table) (sectionOf bytes x)))
+  abbrev pub Does : SectionRead → ℕ → List ℕ → Type 0
+  Does v next new = (next ≡ i + length (sectionBytes (entry table) (sectionRead bytes v))) × (new ≡ over old i (sectionBytes (entry table) (sectionRead bytes v)))
 
-  -- the same of a section known by its case
-  pub asks-case : (x y : AsmSection) → x ≡ y → Asks x → Asks y
-  asks-case x y e h = subst Asks e h
+  -- the same of what the words are known to be
+  pub asks-case : (v w : SectionRead) → v ≡ w → Asks v → Asks w
+  asks-case v w e h = subst Asks e h
 
-  -- and so what it does
-  pub does-case : (x y : AsmSection) (next : ℕ) (new : List ℕ) → x ≡ y → Does y next new → Does x next new
-  does-case x y next new e h = subst (λ (z : AsmSection). Does z next new) (sym e) h
+  pub does-case : (v w : SectionRead) (next : ℕ) (new : List ℕ) → v ≡ w → Does w next new → Does v next new
+  does-case v w next new e h = subst (λ (z : SectionRead). Does z next new) (sym e) h
 
   -- a mark has no bytes
-  pub does-mark : (x : AsmSection) (m : MarkId) → x ≡ Mark m → Does x i old
-  does-mark x m e = does-case x (Mark m) i old e (sym (add-zero i), sym (over-nothing old i))
+  pub does-mark : (v : SectionRead) (m : MarkId) → v ≡ Read (Mark m) → Does v i old
+  does-mark v m e = does-case v (Read (Mark m)) i old e (sym (add-zero i), sym (over-nothing old i))
 
 -- ---- the sections
 
@@ -164,9 +150,9 @@ module _ (w : ℕ) (st : Store) (table : List ℕ) where
   abbrev pub codeFrom : ℕ → List ℕ
   codeFrom i = codeOf (entry table) (decodeFrom w st (st .sections - i) i)
 
-  -- section i, and those after it
-  code-step : (i : ℕ) (x : AsmSection) → i < st .sections → readSection (sectionWords w st i) ≡ Read x
-      → codeFrom i ≡ sectionBytes (entry table) (sectionOf (st .bytes) x) ++ codeFrom (i + 1)
+  -- section i, of the words x, and those after it
+  code-step : (i : ℕ) (x : StoredSection) → i < st .sections → x ≡ sectionWords w st i
+      → codeFrom i ≡ sectionBytes (entry table) (sectionRead (st .bytes) (readSection x)) ++ codeFrom (i + 1)
   unfolding decodeFrom decodeAt inARow
   code-step i x h e =
       let k : st .sections - i ≡ suc (st .sections - (i + 1)) = omega arith in
@@ -185,17 +171,17 @@ module _ (w : ℕ) (st : Store) (table : List ℕ) where
     writing-start h = (omega arith, refl, rw sub-zero h, rw sub-zero refl)
 
     -- section i fits
-    pub writing-fits : (new : List ℕ) (i at : ℕ) (x : AsmSection) → Writing new i at → i < st .sections → readSection (sectionWords w st i) ≡ Read x
-        → at + length (sectionBytes (entry table) (sectionOf (st .bytes) x)) ≤ length new
+    pub writing-fits : (new : List ℕ) (i at : ℕ) (x : StoredSection) → Writing new i at → i < st .sections → x ≡ sectionWords w st i
+        → at + length (sectionBytes (entry table) (sectionRead (st .bytes) (readSection x))) ≤ length new
     writing-fits new i at x q h e =
-        let part : List ℕ = sectionBytes (entry table) (sectionOf (st .bytes) x) in
+        let part : List ℕ = sectionBytes (entry table) (sectionRead (st .bytes) (readSection x)) in
         omega (arith, q .2, ap length (code-step i x h e), length-append part (codeFrom (i + 1)))
 
     -- section i written
-    pub writing-next : (new : List ℕ) (i at : ℕ) (x : AsmSection) (next : ℕ) (new′ : List ℕ) → Writing new i at → i < st .sections
-        → readSection (sectionWords w st i) ≡ Read x → Does (st .bytes) table new at x next new′ → Writing new′ (i + 1) next
+    pub writing-next : (new : List ℕ) (i at : ℕ) (x : StoredSection) (next : ℕ) (new′ : List ℕ) → Writing new i at → i < st .sections
+        → x ≡ sectionWords w st i → Does (st .bytes) table new at (readSection x) next new′ → Writing new′ (i + 1) next
     writing-next new i at x next new′ q h e d =
-        let part : List ℕ = sectionBytes (entry table) (sectionOf (st .bytes) x) in
+        let part : List ℕ = sectionBytes (entry table) (sectionRead (st .bytes) (readSection x)) in
         let fits : at + length part ≤ length new = writing-fits new i at x q h e in
         let long : length new′ ≡ length new = ap length (d .1) ∙ length-over new at part (omega arith) fits in
         let all : at + length (codeFrom i) ≡ at + length part + length (codeFrom (i + 1)) = omega (arith, ap length (code-step i x h e), length-append part (codeFrom (i + 1))) in (
@@ -215,11 +201,3 @@ module _ (w : ℕ) (st : Store) (table : List ℕ) where
     writing-done new i at q h =
         let z : st .sections - i ≡ 0 = omega arith in
         sym (over-nothing new at) ∙ rw z at (q .3)
-
--- three words that can be written aren't damaged
-pub not-damaged : (bytes table : List ℕ) (x : SectionRead) → WritableRead bytes table x → x ≡ Damaged → ⊥
-not-damaged bytes table x h e = subst (WritableRead bytes table) e h
-
--- and are a section that can be
-pub can-write : (bytes table : List ℕ) (x : SectionRead) (s : AsmSection) → WritableRead bytes table x → x ≡ Read s → Writable bytes table s
-can-write bytes table x s h e = subst (WritableRead bytes table) e h

@@ -5,21 +5,22 @@ use native.Mathlib.Omega.{arith}
 use native.Mathlib.Nat.{sub-zero}
 use native.Mathlib.Numerals.{add-one}
 use mathlib.Core.Path.{_≡_, refl, sym, ap, _∙_, subst}
-use mathlib.Core.Bool.{Bool, true, false, true≢false}
-use mathlib.Core.List.{List, [], _∷_, _++_}
+use mathlib.Core.Bool.{true, false, true≢false}
+use mathlib.Core.List.{List, [], _++_}
 use lib.ListN.{length, length-append}
 use Rattle.records.specs.Record.{readSection}
 use Rattle.records.specs.Store.{Store, sectionWords}
 use Rattle.records.specs.Damage.{unreadable, wholeSoundness}
 use Rattle.records.specs.declared.damage.Soundness.the-variants.{Sound}
 use Rattle.records.specs.Sections.{Section, sectionOf, sectionRead, decodeAt, decodeFrom, decode}
+use Rattle.records.specs.declared.record.StoredSection.{StoredSection}
 use Rattle.records.specs.declared.record.AsmSection.{AsmSection}
 use Rattle.records.specs.declared.record.AsmSection.the-variants.{Mark, Ops, Data, MarkRef}
 use Rattle.records.specs.declared.record.SectionRead.{SectionRead}
 use Rattle.records.specs.declared.record.SectionRead.the-variants.{Read, Damaged}
-use Rattle.listing.specs.Put.{Put, SectionIn, Listable}
+use Rattle.listing.specs.Put.{Put, SectionIn, ReadIn, Listable}
 use Rattle.listing.specs.Listing.{sectionText, listing}
-use Rattle.listing.proofs.Puts.{Left, left-start, left-step, left-room, left-done, room-first}
+use Rattle.listing.proofs.Puts.{Left, left-step, left-room, left-done, room-first}
 use Rattle.listing.proofs.Turns.{left-is}
 use Rattle.listing.proofs.Undamaged.{Facts, sound-facts, Holds, section-holds}
 use Rattle.listing.proofs.Lengths.{section-length}
@@ -55,18 +56,23 @@ module _ (w : ℕ) (st : Store) where
   unfolding decodeAt
   at-is i s e = ap (sectionRead (st .bytes)) e
 
+  -- one of the words x
+  at-words : (i : ℕ) (x : StoredSection) → x ≡ sectionWords w st i → decodeAt w st i ≡ sectionRead (st .bytes) (readSection x)
+  unfolding decodeAt
+  at-words i x e = ap (λ (y : StoredSection). sectionRead (st .bytes) (readSection y)) (sym e)
+
   -- ---- what the code's turn asks
 
-  module _ {t now : List ℕ} {at here : ℕ} (i : ℕ) (h : i < st .sections) (s : AsmSection) (e : readSection (sectionWords w st i) ≡ Read s) (l : Left t at (listing (decode w st)) now here (rest w st i)) where
-    -- what is left, its first section as it was read
-    split : Left t at (listing (decode w st)) now here (sectionText (sectionOf (st .bytes) s) ++ rest w st (i + 1))
-    split = left-is (rest-next i h ∙ ap (λ (x : Section). sectionText x ++ rest w st (i + 1)) (at-is i s e)) l
+  module _ {t now : List ℕ} {at here : ℕ} (i : ℕ) (h : i < st .sections) (x : StoredSection) (e : x ≡ sectionWords w st i) (l : Left t at (listing (decode w st)) now here (rest w st i)) where
+    -- what is left, its first section by its words
+    split : Left t at (listing (decode w st)) now here (sectionText (sectionRead (st .bytes) (readSection x)) ++ rest w st (i + 1))
+    split = left-is (rest-next i h ∙ ap (λ (y : Section). sectionText y ++ rest w st (i + 1)) (at-words i x e)) l
 
-    pub every-turn : {m : List ℕ} {r : ℕ} → Put now here (sectionText (sectionOf (st .bytes) s)) r m → Left t at (listing (decode w st)) m r (rest w st (i + 1))
+    pub every-turn : {m : List ℕ} {r : ℕ} → Put now here (sectionText (sectionRead (st .bytes) (readSection x))) r m → Left t at (listing (decode w st)) m r (rest w st (i + 1))
     every-turn p = left-step (rest w st (i + 1)) split p
 
-    pub every-room : at + length (listing (decode w st)) < 2 ^ 64 → here + length (sectionText (sectionOf (st .bytes) s)) < 2 ^ 64
-    every-room room = room-first here (sectionText (sectionOf (st .bytes) s)) (rest w st (i + 1)) (left-room split room)
+    pub every-room : at + length (listing (decode w st)) < 2 ^ 64 → here + length (sectionText (sectionRead (st .bytes) (readSection x))) < 2 ^ 64
+    every-room room = room-first here (sectionText (sectionRead (st .bytes) (readSection x))) (rest w st (i + 1)) (left-room split room)
 
   pub every-done : {t now : List ℕ} {at here : ℕ} (i : ℕ) → st .sections ≤ i → Left t at (listing (decode w st)) now here (rest w st i) → Put t at (listing (decode w st)) here now
   every-done i h l = left-done (left-is (rest-none i h) l)
@@ -78,11 +84,11 @@ module _ (w : ℕ) (st : Store) where
     holds i s h e = subst (Holds (st .storedBytes)) e (section-holds (st .storedBytes) (sectionWords w st i) (facts .inside i h))
 
     -- no section is damaged
-    pub never : (i : ℕ) → i < st .sections → readSection (sectionWords w st i) ≡ Damaged → ⊥
+    never : (i : ℕ) → i < st .sections → readSection (sectionWords w st i) ≡ Damaged → ⊥
     never i h e = true≢false (sym (ap unreadable e) ∙ facts .readable i h)
 
     -- its bytes are there
-    pub section-in : (i : ℕ) (s : AsmSection) → i < st .sections → readSection (sectionWords w st i) ≡ Read s → SectionIn (length (st .bytes)) s
+    section-in : (i : ℕ) (s : AsmSection) → i < st .sections → readSection (sectionWords w st i) ≡ Read s → SectionIn (length (st .bytes)) s
     section-in i s h e = weaker s (holds i s h e)
       where
         weaker : (s : AsmSection) → Holds (st .storedBytes) (Read s) → SectionIn (length (st .bytes)) s
@@ -90,6 +96,14 @@ module _ (w : ℕ) (st : Store) where
         weaker (Ops p) k = (k .0, omega (arith, k .1, facts .bytesFit))
         weaker (Data p) k = (k .0, omega (arith, k .1, facts .bytesFit))
         weaker (MarkRef r) k = tt
+
+    -- so of its words
+    pub read-in : (i : ℕ) (x : StoredSection) → i < st .sections → x ≡ sectionWords w st i → ReadIn (length (st .bytes)) (readSection x)
+    read-in i x h e = subst (λ (y : StoredSection). ReadIn (length (st .bytes)) (readSection y)) (sym e) (go (readSection (sectionWords w st i)) refl)
+      where
+        go : (v : SectionRead) → readSection (sectionWords w st i) ≡ v → ReadIn (length (st .bytes)) v
+        go (Read s) k = section-in i s h k
+        go Damaged k = absurd (never i h k)
 
     -- the length of its text
     at-length : (i : ℕ) → i < st .sections → length (sectionText (decodeAt w st i)) ≤ 2 ^ 30

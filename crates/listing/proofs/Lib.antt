@@ -7,3 +7,4 @@ pub mod Every
 pub mod Answers
 pub mod Examples
 pub mod Held
+pub mod Words

@@ -12,6 +12,8 @@ use Rattle.records.specs.Store.{Store, storeOf}
 use Rattle.records.specs.Damage.{wholeSoundness}
 use Rattle.records.specs.Sections.{decode}
 use Rattle.records.specs.declared.damage.Soundness.the-variants.{Sound}
+use Rattle.records.specs.declared.record.SectionRead.{SectionRead}
+use Rattle.records.specs.declared.record.SectionRead.the-variants.{Read, Damaged}
 use Rattle.records.specs.declared.record.AsmSection.{AsmSection}
 use Rattle.records.specs.declared.record.AsmSection.the-variants.{Mark, Ops, Data, MarkRef}
 use Rattle.listing.specs.Listing.{listing}
@@ -31,6 +33,11 @@ SectionIn n (Mark m) = Unit
 SectionIn n (Ops s) = SpanIn n s
 SectionIn n (Data s) = SpanIn n s
 SectionIn n (MarkRef r) = Unit
+
+-- three words that are read as such a section
+abbrev pub ReadIn : ℕ → SectionRead → Type 0
+ReadIn n (Read s) = SectionIn n s
+ReadIn n Damaged = ⊥
 
 -- the instruction at i of bytes, in a run of code that ends at `end`
 abbrev pub placedAt : List ℕ → ℕ → ℕ → Placed

@@ -8,13 +8,16 @@ use records::Assembler;
 use records::SectionRead;
 use records::StoredSection;
 use records::read_section;
+use units::AsmBytesIdx;
+use units::BytesSpan;
+use units::MarkId;
 ghost use mathlib.Core.Path.{_≡_};
 ghost use Prim.Native.Nat.{_+_, _*_, _≤_, _<_, _^_};
 ghost use lib.ListN.{length};
 ghost use Rattle.records.specs.Record.{readSection};
 ghost use Rattle.records.specs.Store.{storeOf, wordsPerSection, wordsAt};
-ghost use Rattle.records.specs.Sections.{sectionOf, decode};
-ghost use Rattle.listing.specs.Put.{Put, SectionIn, Listable};
+ghost use Rattle.records.specs.Sections.{sectionOf, sectionRead, decode};
+ghost use Rattle.listing.specs.Put.{Put, SectionIn, ReadIn, Listable};
 ghost use Rattle.listing.specs.Listing.{sectionText, listing};
 
 // The lines of one section.
@@ -30,17 +33,43 @@ fn put_section(text: &mut [u8], at: usize, bytes: &[u8], section: AsmSection) ->
     }
 }
 
-// Section i, read from its words.
-fn section_at(words: &[u32], i: usize) -> SectionRead
+// The three words of section i.
+fn section_words(words: &[u32], i: usize) -> StoredSection
     requires { ⌜ wordsPerSection * (i + 1) ≤ length (now words) ⌝ }
-    ensures { λ r. ⌜ r ≡ readSection (wordsAt wordsPerSection (now (words .entry)) i) ⌝ }
+    ensures { λ r. ⌜ r ≡ wordsAt wordsPerSection (now (words .entry)) i ⌝ }
 {
     let at = Assembler::WORDS * i;
-    read_section(StoredSection {
+    StoredSection {
         kind: words[at],
         first: words[at + 1],
         second: words[at + 2],
-    })
+    }
+}
+
+// The lines of one section, from its words. Of a mark, Ops and Data nothing is read but the words.
+fn put_words(text: &mut [u8], at: usize, bytes: &[u8], section: StoredSection) -> usize
+    requires { ⌜ ReadIn (length (now bytes)) (readSection section) × (at + length (sectionText (sectionRead (now bytes) (readSection section))) < 2 ^ 64) ⌝ }
+    ensures { λ r. ⌜ Put (now (text .entry)) at (sectionText (sectionRead (now (bytes .entry)) (readSection section))) r (now (text .exit)) ⌝ }
+{
+    let kind = section.kind;
+    let span = BytesSpan {
+        start: AsmBytesIdx(section.first),
+        end: AsmBytesIdx(section.second),
+    };
+    if kind == 0 {
+        return put_mark_line(text, at, MarkId(section.first));
+    }
+    if kind == 1 {
+        return put_ops_lines(text, at, bytes, span);
+    }
+    if kind == 2 {
+        return put_data_line(text, at, bytes, span);
+    }
+    let read = read_section(section);
+    let SectionRead::Read(section) = read else {
+        return at;
+    };
+    put_section(text, at, bytes, section)
 }
 
 // The lines of every section.
@@ -57,11 +86,7 @@ pub(crate) fn put_sections(
     let mut here = at;
     let mut i: u32 = 0;
     while i < store.sections {
-        let read = section_at(words, i as usize);
-        let SectionRead::Read(section) = read else {
-            return here;
-        };
-        here = put_section(text, here, bytes, section);
+        here = put_words(text, here, bytes, section_words(words, i as usize));
         i += 1;
     }
     here

@@ -10,9 +10,7 @@ use lib.ListN.{length}
 use borrow.Author.Tests.{lt-ltb, le-ltb, le-leb, lt-leb, eq-eqb, ne-eqb, leb-true, leb-false, not-false}
 use Rattle.records.specs.Record.{readSection}
 use Rattle.records.specs.Store.{Store, maxBytes, maxSections, sectionWords, badCounts}
-use Rattle.records.specs.Damage.{isSpan, brokenSection, brokenLast, endBefore, spansEnd, breaksRule, leastFrom, firstBroken, badCount, brokenReply, wholeSoundness, lastBroken, badCountBuilding, lastSoundness}
-use Rattle.records.specs.declared.record.AsmSection.{AsmSection}
-use Rattle.records.specs.declared.record.SectionRead.the-variants.{Read, Damaged}
+use Rattle.records.specs.Damage.{unreadable, isSpan, brokenSection, brokenLast, endBefore, spansEnd, breaksRule, leastFrom, firstBroken, badCount, brokenReply, wholeSoundness, lastBroken, badCountBuilding, lastSoundness}
 use Rattle.records.specs.declared.record.StoredSection.{StoredSection}
 use Rattle.records.specs.declared.damage.Soundness
 use Rattle.records.specs.declared.damage.Soundness.{Soundness}
@@ -58,35 +56,35 @@ module _ (w : ℕ) (st : Store) where
 
 -- a last section
 module _ (r : StoredSection) (stored : ℕ) where
-  pub last-unreadable : readSection r ≡ Damaged → true ≡ brokenLast r stored
+  pub last-unreadable : unreadable (readSection r) ≡ true → true ≡ brokenLast r stored
   last-unreadable e = rw e
 
-  pub last-span : (s : AsmSection) → readSection r ≡ Read s → isSpan (r .kind) ≡ true → not (eqb (r .second) stored) ≡ brokenLast r stored
-  last-span s e t = rw (e, t)
+  pub last-span : unreadable (readSection r) ≡ false → isSpan (r .kind) ≡ true → not (eqb (r .second) stored) ≡ brokenLast r stored
+  last-span e t = rw (e, t)
 
-  pub last-other : (s : AsmSection) → readSection r ≡ Read s → isSpan (r .kind) ≡ false → false ≡ brokenLast r stored
-  last-other s e t = rw (e, t)
+  pub last-other : unreadable (readSection r) ≡ false → isSpan (r .kind) ≡ false → false ≡ brokenLast r stored
+  last-other e t = rw (e, t)
 
 -- any section
 module _ (r : StoredSection) (previous : ℕ) (isLast : Bool) (stored : ℕ) where
-  pub any-unreadable : readSection r ≡ Damaged → true ≡ brokenSection r previous isLast stored
+  pub any-unreadable : unreadable (readSection r) ≡ true → true ≡ brokenSection r previous isLast stored
   any-unreadable e = rw e
 
-  pub any-other : (s : AsmSection) → readSection r ≡ Read s → isSpan (r .kind) ≡ false → false ≡ brokenSection r previous isLast stored
-  any-other s e t = rw (e, t)
+  pub any-other : unreadable (readSection r) ≡ false → isSpan (r .kind) ≡ false → false ≡ brokenSection r previous isLast stored
+  any-other e t = rw (e, t)
 
-  pub any-start : (s : AsmSection) → readSection r ≡ Read s → isSpan (r .kind) ≡ true → (r .first ≡ previous → ⊥) → true ≡ brokenSection r previous isLast stored
-  any-start s e t n =
+  pub any-start : unreadable (readSection r) ≡ false → isSpan (r .kind) ≡ true → (r .first ≡ previous → ⊥) → true ≡ brokenSection r previous isLast stored
+  any-start e t n =
       let u : eqb (r .first) previous ≡ false = ne-eqb _ _ n in
       rw (e, t, u)
 
-  pub any-last : (s : AsmSection) → readSection r ≡ Read s → isSpan (r .kind) ≡ true → r .first ≡ previous → isLast ≡ true → not (eqb (r .second) stored) ≡ brokenSection r previous isLast stored
-  any-last s e t n l =
+  pub any-last : unreadable (readSection r) ≡ false → isSpan (r .kind) ≡ true → r .first ≡ previous → isLast ≡ true → not (eqb (r .second) stored) ≡ brokenSection r previous isLast stored
+  any-last e t n l =
       let u : eqb (r .first) previous ≡ true = eq-eqb _ _ n in
       rw (e, t, u, l)
 
-  pub any-inner : (s : AsmSection) → readSection r ≡ Read s → isSpan (r .kind) ≡ true → r .first ≡ previous → isLast ≡ false → false ≡ brokenSection r previous isLast stored
-  any-inner s e t n l =
+  pub any-inner : unreadable (readSection r) ≡ false → isSpan (r .kind) ≡ true → r .first ≡ previous → isLast ≡ false → false ≡ brokenSection r previous isLast stored
+  any-inner e t n l =
       let u : eqb (r .first) previous ≡ true = eq-eqb _ _ n in
       rw (e, t, u, l)
 

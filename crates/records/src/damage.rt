@@ -1,15 +1,14 @@
 // The tests for number 6: the whole store's, and the lesser one of a building call.
 use crate::Assembler;
-use crate::record::SectionRead;
 use crate::record::StoredSection;
-use crate::record::read_section;
 ghost use mathlib.Core.Path.{_≡_};
-ghost use mathlib.Core.Bool.{cond, _&&_};
+ghost use mathlib.Core.Bool.{true, cond, _&&_};
 ghost use Prim.Native.Nat.{_+_, _*_, _≤_};
 ghost use lib.Dec.{ltb, eqb};
 ghost use lib.ListN.{length};
 ghost use Rattle.records.specs.Store.{storeOf, wordsPerSection, wordsAt, badCounts};
-ghost use Rattle.records.specs.Damage.{isSpan, spansEnd, brokenSection, brokenLast, brokenReply, wholeSoundness, lastSoundness};
+ghost use Rattle.records.specs.Record.{readMark, readDirect, readDelta, readSection};
+ghost use Rattle.records.specs.Damage.{unreadable, isSpan, spansEnd, brokenSection, brokenLast, brokenReply, wholeSoundness, lastSoundness};
 
 // Sound, or the section that number 6 reports.
 pub enum Soundness {
@@ -119,13 +118,69 @@ fn spans_end(store: Assembler, bytes: &[u8], words: &[u32]) -> u32
     0
 }
 
+// A section that can't be read. This is `read_section` with nothing made of what is read: every call and every walk asks it.
+fn is_unreadable(section: StoredSection) -> bool
+    ensures { λ r. ⌜ r ≡ unreadable (readSection section) ⌝ }
+{
+    let kind = section.kind;
+    let first = section.first;
+    let second = section.second;
+    if is_span(kind) {
+        return second < first;
+    }
+    if kind == 0 {
+        return is_bad_mark(first, second);
+    }
+    if kind == 3 {
+        return is_bad_direct(first, second);
+    }
+    if 13 < kind {
+        return true;
+    }
+    is_bad_delta(first, second)
+}
+
+fn is_bad_mark(first: u32, second: u32) -> bool
+    ensures { λ r. ⌜ r ≡ unreadable (readMark first second) ⌝ }
+{
+    if Assembler::MAX_MARK < first {
+        return true;
+    }
+    second != 0
+}
+
+fn is_bad_direct(first: u32, second: u32) -> bool
+    ensures { λ r. ⌜ r ≡ unreadable (readDirect first second) ⌝ }
+{
+    if Assembler::MAX_MARK < first {
+        return true;
+    }
+    if second < 5 {
+        return false;
+    }
+    if second < 8 {
+        return true;
+    }
+    12 < second
+}
+
+// The same whatever its size, pushed or not.
+fn is_bad_delta(first: u32, second: u32) -> bool
+    ensures { λ r. ⌜ r ≡ unreadable (readDelta 0 true first second) ⌝ }
+{
+    if Assembler::MAX_MARK < first {
+        return true;
+    }
+    Assembler::MAX_MARK < second
+}
+
 // A section that can't be read, starts elsewhere than at the previous end, or, the last with bytes, ends elsewhere than at the stored count.
 fn broken_section(section: StoredSection, previous_end: u32, is_last: bool, stored: u32) -> bool
     ensures { λ r. ⌜ r ≡ brokenSection section «previous_end» «is_last» stored ⌝ }
 {
-    let SectionRead::Read(_) = read_section(section) else {
+    if is_unreadable(section) {
         return true;
-    };
+    }
     if !is_span(section.kind) {
         return false;
     }
@@ -143,9 +198,9 @@ fn broken_section(section: StoredSection, previous_end: u32, is_last: bool, stor
 fn broken_last(section: StoredSection, count: u32) -> bool
     ensures { λ r. ⌜ r ≡ brokenLast section count ⌝ }
 {
-    let SectionRead::Read(_) = read_section(section) else {
+    if is_unreadable(section) {
         return true;
-    };
+    }
     if is_span(section.kind) {
         section.second != count
     } else {

@@ -14,10 +14,10 @@ pub use record::reference_words;
 ghost use mathlib.Core.Path.{_≡_};
 ghost use Rattle.records.specs.Store.{emptyCounts};
 
-// A store: the count of stored bytes and the count of sections, over a lent byte slice and a lent slice of words.
+// A store: the count of sections and the count of stored bytes, over a lent byte slice and a lent slice of words.
 pub struct Assembler {
-    pub bytes: u32,
     pub sections: u32,
+    pub bytes: u32,
 }
 
 impl Assembler {

@@ -3,3 +3,5 @@ pub mod Places
 pub mod Searches
 pub mod Sections
 pub mod Turns
+pub mod Words
+pub mod Starts

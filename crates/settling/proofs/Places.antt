@@ -2,17 +2,15 @@
 -- first placing. So 8 and 9 can be read from it. Assumes nothing.
 use Prim.Native.Nat.{ℕ, zero, suc, _+_, _≤_, _<_, suc-le-suc}
 use native.Mathlib.Omega.{arith}
-use mathlib.Core.Path.{_≡_, refl, sym, ap, _∙_, subst}
-use mathlib.Core.Bool.{Bool, true, false, cond, not, _||_, true≢false, false≢true}
+use mathlib.Core.Path.{_≡_, refl, sym, ap, _∙_}
+use mathlib.Core.Bool.{Bool, true, false, cond, not, true≢false}
 use mathlib.Core.List.{List, [], _∷_}
 use mathlib.Core.Logic.{_⊎_, inl, inr}
 use lib.Dec.{eqb, leb}
-use lib.ListN.{length, set, replicate, length-set, length-replicate, getD-replicate, take}
+use lib.ListN.{length, set, replicate, length-set, length-replicate, getD-replicate}
 use lib.Seq.{getD-set-same, getD-set-other}
-use borrow.Author.Tests.{eqb-true, eqb-false, eq-eqb, ne-eqb, leb-false, leb-true, le-leb, lt-leb}
+use borrow.Author.Tests.{eqb-true, eqb-false, eq-eqb, ne-eqb, leb-false, leb-true}
 use Rattle.units.specs.Reference.{leastSize}
-use Rattle.units.specs.declared.MarkId.{MarkId}
-use Rattle.units.specs.declared.AsmReference.{AsmReference}
 use Rattle.units.specs.declared.MarkReference.{MarkReference}
 use Rattle.units.specs.declared.MarkReference.the-variants.{Direct, Delta}
 use Rattle.records.specs.Sections.{Section, mark, ops, bytes, reference}
@@ -41,7 +39,7 @@ abbrev Placing : List Section → ℕ → ℕ → ℕ → Type 0
 Placing ss m sum x = ((x ≡ 0) × (placed ss m ≡ false)) ⊎ FirstAt ss m sum x
 
 -- an entry that is set stays
-place-kept : (ss : List Section) (sum : ℕ) (table : List ℕ) (m : ℕ) → (entry table m ≡ 0 → ⊥) → entry (placeFrom ss sum table) m ≡ entry table m
+pub place-kept : (ss : List Section) (sum : ℕ) (table : List ℕ) (m : ℕ) → (entry table m ≡ 0 → ⊥) → entry (placeFrom ss sum table) m ≡ entry table m
 unfolding placeFrom
 place-kept [] sum table m h = refl
 place-kept (mark a ∷ ss) sum table m h = go (eqb (entry table a) 0) refl (λ t k. place-kept ss sum t m k)

@@ -1,15 +1,15 @@
 -- The searches for 7, 8, 9 and 12: 'what remains has the same first', and the test that the code makes of one section is the
 -- condition's. Assumes nothing.
-use Prim.Native.Nat.{ℕ, zero, suc, _+_, _-_, _≤_, _<_}
+use Prim.Native.Nat.{ℕ, suc, _+_, _-_, _≤_, _<_}
 use native.Mathlib.Nat.{sub-zero}
 use native.Mathlib.Numerals.{add-one}
 use native.Mathlib.Omega.{arith}
-use mathlib.Core.Path.{_≡_, refl, sym, ap, ap₂, _∙_, subst}
-use mathlib.Core.Bool.{Bool, true, false, cond, not, _||_, true≢false, false≢true}
-use mathlib.Core.List.{List, [], _∷_}
-use lib.Dec.{leb, eqb}
+use mathlib.Core.Path.{_≡_, refl, sym, ap, ap₂, _∙_}
+use mathlib.Core.Bool.{Bool, true, false, cond, _||_}
+use mathlib.Core.List.{List}
+use lib.Dec.{leb}
 use lib.ListN.{length}
-use borrow.Author.Tests.{leb-false, eq-eqb, ne-eqb}
+use borrow.Author.Tests.{leb-false}
 use mathlib.Mathlib.Data.Bool.Basic.{or-eq-false-eq-eq-false-and-eq-false as or-false}
 use Rattle.units.specs.declared.MarkId.{MarkId}
 use Rattle.units.specs.declared.MarkSpan.{MarkSpan}
@@ -18,10 +18,9 @@ use Rattle.units.specs.declared.MarkReference.{MarkReference}
 use Rattle.units.specs.declared.MarkReference.the-variants.{Direct, Delta}
 use Rattle.records.specs.Damage.{leastFrom}
 use Rattle.records.specs.Sections.{Section, mark, ops, bytes, reference}
-use Rattle.layout.specs.Passes.{entry}
 use Rattle.layout.specs.Conditions.{sectionAt, first, Never, placesSome, someMark, namesSome, refers, shortAt, firstShort, unplacedAt, firstUnplaced, apartAt, firstApart, backwardAt, firstBackward, backwardBy}
 use Rattle.layout.proofs.Least.{least-range, never-law}
-use Rattle.settling.specs.Pieces.{pieceOf, shortPiece, unplacedPiece, apartPiece, backwardPiece}
+use Rattle.settling.specs.Pieces.{pieceOf, shortPiece, backwardPiece}
 use Rattle.settling.specs.declared.piece.Piece.{Piece}
 use Rattle.settling.specs.declared.piece.Piece.the-variants as piece
 use Rattle.settling.proofs.Sections.{Turn}

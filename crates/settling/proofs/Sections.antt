@@ -1,17 +1,15 @@
 -- What the walks know of an undamaged store: its list of sections, section i as the code reads it, and that no sum of sizes is large.
 -- Assumes nothing.
-use Prim.Native.Nat.{ℕ, zero, suc, _+_, _*_, _-_, _≤_, _<_}
+use Prim.Native.Nat.{ℕ, zero, suc, _+_, _*_, _≤_, _<_}
 use native.Mathlib.Nat.{add-zero, zero-add, le-refl}
 use native.Mathlib.Numerals.{add-one}
 use native.Mathlib.Omega.{arith}
-use mathlib.Core.Path.{_≡_, refl, sym, ap, ap₂, _∙_, subst}
-use mathlib.Core.Bool.{Bool, true, false, cond, true≢false}
+use mathlib.Core.Path.{_≡_, refl, sym, ap, _∙_, subst}
+use mathlib.Core.Bool.{true, false, cond, true≢false}
 use mathlib.Core.List.{List, [], _∷_, _++_}
-use mathlib.Core.Logic.{_⊎_, inl, inr}
 use lib.ListN.{length, getD, take, drop, drop-of-length-le}
 use lib.Seq.{slice, length-slice, drop-cons, take-all}
 use Rattle.units.specs.Reference.{leastSize, size}
-use Rattle.units.specs.declared.BytesSpan.{BytesSpan}
 use Rattle.units.specs.declared.MarkId.{MarkId}
 use Rattle.units.specs.declared.AsmReference.{AsmReference}
 use Rattle.records.specs.Record.{readSection}
@@ -19,10 +17,8 @@ use Rattle.records.specs.Store.{Store, storeOf, wordsPerSection, maxBytes, maxS
 use Rattle.records.specs.Damage.{unreadable, isSpan, endBefore}
 use Rattle.records.specs.Sections.{Section, mark, ops, bytes, reference, sectionRead, decodeAt, decodeFrom, decode}
 use Rattle.records.specs.declared.Assembler.{Assembler}
-use Rattle.records.specs.declared.record.AsmSection.{AsmSection}
-use Rattle.records.specs.declared.record.AsmSection.the-variants.{Mark, Ops, Data, MarkRef}
+use Rattle.records.specs.declared.record.AsmSection.the-variants.{Mark, Ops, Data}
 use Rattle.records.specs.declared.record.SectionRead.{SectionRead}
-use Rattle.records.specs.declared.record.SectionRead.the-variants.{Read, Damaged}
 use Rattle.records.specs.declared.record.StoredSection.{StoredSection}
 use Rattle.layout.specs.Conditions.{sectionAt, sumOf, storedIn}
 use Rattle.layout.proofs.Moves.{widthBy}
@@ -33,7 +29,8 @@ use Rattle.store_view.proofs.Tests.{cond-true}
 use Rattle.store_view.proofs.Reading.{View, unread, as-ops, as-data, as-mark, as-reference, view}
 use Rattle.store_view.proofs.Soundness.{undamaged-iff}
 use Rattle.store_view.proofs.Grown.{decode-snoc, end-mono}
-use Rattle.settling.specs.Pieces.{sectionsOf, Whole, pieceOf, pieceOfSection, pieceRead, pieceAt, leastPiece}
+use Rattle.settling.specs.Pieces.{sectionsOf, Whole, pieceOf, pieceRead, pieceAt, leastPiece}
+use Rattle.settling.specs.Words.{pieceOfWords, Readable}
 use Rattle.settling.specs.declared.piece.Piece.{Piece}
 use Rattle.settling.specs.declared.piece.Piece.the-variants as piece
 
@@ -86,39 +83,6 @@ stored-view {k} {a} {b} held at (as-data e l) u s h =
     rw t (omega (arith, s t, length-slice a b held (h t)))
 stored-view held at (as-mark n m) u s h = rw n (add-zero at)
 stored-view held at (as-reference n r) u s h = rw n (add-zero at)
-
--- an Ops or Data section that was read starts at or before its end
-abbrev Ordered : SectionRead → Type 0
-Ordered (Read (Ops s)) = s .start .0 ≤ s .end .0
-Ordered (Read (Data s)) = s .start .0 ≤ s .end .0
-Ordered (Read (Mark m)) = Unit {0}
-Ordered (Read (MarkRef r)) = Unit {0}
-Ordered Damaged = Unit {0}
-
-view-ordered : {k a b : ℕ} {v : SectionRead} → View k a b v → Ordered v
-view-ordered unread = tt
-view-ordered (as-ops e l) = l
-view-ordered (as-data e l) = l
-view-ordered (as-mark n m) = tt
-view-ordered (as-reference n r) = tt
-
--- for the code: x are the words, v is what they are read as
-module _ (words : List ℕ) (i : ℕ) (x : StoredSection) (v : SectionRead) (at : x ≡ wordsAt wordsPerSection words i) (is : v ≡ readSection x) where
-  pub piece-damaged : v ≡ Damaged → piece.Block 0 ≡ pieceAt words i
-  unfolding pieceAt
-  piece-damaged e = ap pieceRead (sym e ∙ is ∙ ap readSection at)
-
-  pub piece-read : (s : AsmSection) (p : Piece) → v ≡ Read s → p ≡ pieceOfSection s → p ≡ pieceAt words i
-  unfolding pieceAt
-  piece-read s p e h = h ∙ ap pieceRead (sym e ∙ is ∙ ap readSection at)
-
--- and its span, if it has one, is in order
-module _ (x : StoredSection) (v : SectionRead) (is : v ≡ readSection x) where
-  pub ops-ordered : (s : AsmSection) (b : BytesSpan) → v ≡ Read s → s ≡ Ops b → b .start .0 ≤ b .end .0
-  ops-ordered s b e h = subst Ordered (sym is ∙ e ∙ ap Read h) (view-ordered (view x))
-
-  pub data-ordered : (s : AsmSection) (b : BytesSpan) → v ≡ Read s → s ≡ Data b → b .start .0 ≤ b .end .0
-  data-ordered s b e h = subst Ordered (sym is ∙ e ∙ ap Read h) (view-ordered (view x))
 
 -- the last ends are within the stored bytes
 end-limit : (w : ℕ) (st : Store) (i : ℕ) → Facts w st → i ≤ st .sections → endBefore w st i ≤ st .storedBytes
@@ -294,3 +258,13 @@ module _ (store : Assembler) (held words : List ℕ) (u : Whole store held words
       let n = decode-count wordsPerSection (storeOf store held words) in
       let all : sumOf storedIn (take (length ss) ss) ≡ sumOf storedIn ss = ap (sumOf storedIn) (take-all (length ss) ss (le-refl (length ss))) in
       omega (arith, sum-mono storedIn ss i (length ss) (omega arith), stored-small .0, stored-small .1)
+
+  -- the same, where the code has the section's words
+  pub turn-words : (i : ℕ) (x : StoredSection) → i < store .sections → x ≡ wordsAt wordsPerSection words i → Turn (sectionsOf store held words) i (pieceOfWords x)
+  unfolding pieceOfWords pieceAt
+  turn-words i x l e = turn i (pieceOfWords x) l (ap pieceOfWords e)
+
+  -- they can be read
+  pub readable-words : (i : ℕ) (x : StoredSection) → i < store .sections → x ≡ wordsAt wordsPerSection words i → Readable x
+  unfolding Readable
+  readable-words i x l e = ap (λ (y : StoredSection). unreadable (readSection y)) e ∙ facts .readable i l

@@ -1,17 +1,14 @@
 -- One turn of each walk that changes the table: the table of first placings, the start table, and a pass; and what the passes come to.
 -- Each says that what remains equals the whole. Assumes nothing.
-use Prim.Native.Nat.{ℕ, zero, suc, _+_, _-_, _≤_, _<_}
+use Prim.Native.Nat.{ℕ, suc, _+_, _-_, _≤_, _<_}
 use native.Mathlib.Numerals.{add-one}
 use native.Mathlib.Omega.{arith}
 use mathlib.Core.Path.{_≡_, refl, sym, ap, ap₂, _∙_, subst}
-use mathlib.Core.Bool.{Bool, true, false, cond, not, _||_}
+use mathlib.Core.Bool.{Bool, true, false, cond, _||_}
 use mathlib.Core.List.{List, [], _∷_, _++_}
-use lib.Dec.{eqb}
-use lib.ListN.{length, getD, set, take, drop, replicate, replicate-append-replicate}
+use lib.ListN.{length, set, take, drop, replicate, replicate-append-replicate}
 use lib.Seq.{take-all, take-suc-set}
-use borrow.Author.Tests.{eq-eqb, ne-eqb}
 use Rattle.units.specs.Reference.{leastSize, size, tooNarrow, sizeFor}
-use Rattle.units.specs.Replies.{maxPasses}
 use Rattle.units.specs.declared.MarkId.{MarkId}
 use Rattle.units.specs.declared.AsmReference.{AsmReference}
 use Rattle.units.specs.declared.SizeFor.{SizeFor}
@@ -21,12 +18,13 @@ use Rattle.records.specs.Sections.{Section, mark, ops, bytes, reference}
 use Rattle.layout.specs.Passes.{entry, valueBy, startFrom, start, Walked, through, leftAt, unlike, walkFrom, pass, Settling, settled, narrowAt, unsettled, ended, passes}
 use Rattle.layout.specs.Conditions.{sectionAt}
 use Rattle.layout.proofs.Walks.{walk-mark}
-use Rattle.settling.specs.Pieces.{pieceOf, placeFrom, firstSums, passesReply, passesTable}
-use Rattle.settling.specs.declared.Settled.{Settled}
+use Rattle.settling.specs.Pieces.{leastPiece, placeFrom, firstSums, passesReply, passesTable}
+use Rattle.settling.specs.Words.{sizePiece, placeMark}
 use Rattle.settling.specs.declared.Settled.the-variants.{LaidOut, Refused}
 use Rattle.settling.specs.declared.piece.Piece.{Piece}
 use Rattle.settling.specs.declared.piece.Piece.the-variants as piece
-use Rattle.settling.proofs.Sections.{Turn, left-cons, left-none, is-mark, is-reference, is-block, size-small, Room}
+use Rattle.settling.proofs.Sections.{Turn, left-cons, left-none, is-mark, is-reference, is-block, size-small, Room, room-block, room-size}
+use Rattle.settling.proofs.Words.{NotMark}
 
 -- the size that the code found
 pub size-found : (r : AsmReference) (v n : ℕ) → sizeFor r v ≡ Bytes n → (tooNarrow r v ≡ false) × (n ≡ size r v)
@@ -55,7 +53,7 @@ module _ (ss : List Section) (i : ℕ) (p : Piece) (t : Turn ss i p) where
   left-is : (s : Section) → sectionAt ss i ≡ s → drop i ss ≡ s ∷ rest
   left-is s e = left-cons ss i (t .below) ∙ ap (λ (x : Section). x ∷ rest) e
 
-  left-mark : (m : MarkId) → p ≡ piece.Mark m → drop i ss ≡ mark (m .0) ∷ rest
+  pub left-mark : (m : MarkId) → p ≡ piece.Mark m → drop i ss ≡ mark (m .0) ∷ rest
   left-mark m e = left-is (mark (m .0)) (is-mark (sectionAt ss i) m (sym e ∙ t .is))
 
   left-reference : (r : AsmReference) → p ≡ piece.Reference r → drop i ss ≡ reference r ∷ rest
@@ -67,17 +65,9 @@ module _ (ss : List Section) (i : ℕ) (p : Piece) (t : Turn ss i p) where
 
   -- ---- the table of first placings
 
-  pub place-set : (sum : ℕ) (table : List ℕ) (m : MarkId) → p ≡ piece.Mark m → getD table (m .0) 0 ≡ 0 → placeFrom (drop i ss) sum table ≡ placeFrom rest sum (set table (m .0) (sum + 1))
+  pub place-at : (sum : ℕ) (table : List ℕ) (m : MarkId) → p ≡ piece.Mark m → placeFrom (drop i ss) sum table ≡ placeFrom rest sum (placeMark table (m .0) sum)
   unfolding placeFrom
-  place-set sum table m e z =
-      ap (λ (l : List Section). placeFrom l sum table) (left-mark m e)
-      ∙ ap (λ (b : Bool). placeFrom rest sum (cond b (set table (m .0) (sum + 1)) table)) (eq-eqb (getD table (m .0) 0) 0 z)
-
-  pub place-keep : (sum : ℕ) (table : List ℕ) (m : MarkId) → p ≡ piece.Mark m → (getD table (m .0) 0 ≡ 0 → ⊥) → placeFrom (drop i ss) sum table ≡ placeFrom rest sum table
-  unfolding placeFrom
-  place-keep sum table m e z =
-      ap (λ (l : List Section). placeFrom l sum table) (left-mark m e)
-      ∙ ap (λ (b : Bool). placeFrom rest sum (cond b (set table (m .0) (sum + 1)) table)) (ne-eqb (getD table (m .0) 0) 0 z)
+  place-at sum table m e = ap (λ (l : List Section). placeFrom l sum table) (left-mark m e)
 
   pub place-block : (sum n : ℕ) (table : List ℕ) → p ≡ piece.Block n → placeFrom (drop i ss) sum table ≡ placeFrom rest (sum + n) table
   unfolding placeFrom
@@ -143,6 +133,43 @@ module _ (ss : List Section) (i : ℕ) (p : Piece) (t : Turn ss i p) where
 -- the code's sizes are at most 5
 pub found-small : (r : AsmReference) (v n : ℕ) (x : SizeFor) → x ≡ sizeFor r v → x ≡ Bytes n → n ≤ 5
 found-small r v n x found k = omega (arith, size-small r v, size-found r v n (sym found ∙ k) .1)
+
+-- ---- a turn at a section that isn't a mark
+
+module _ (ss : List Section) (i : ℕ) where
+  pub turn-other : (p : Piece) → Turn ss i p → NotMark p → (sum n : ℕ) (moved : Bool) (table : List ℕ) (x : SizeFor) → x ≡ sizePiece table p → x ≡ Bytes n
+      → walkFrom (drop i ss) i sum moved table ≡ walkFrom (drop (i + 1) ss) (i + 1) (sum + n) moved table
+  turn-other (piece.Mark m) t other sum n moved table x e k = absurd other
+  turn-other (piece.Block b) t other sum n moved table x e k =
+      let same : b ≡ n = let q : Bytes b ≡ Bytes n = sym e ∙ k in cc in
+      turn-block ss i (piece.Block b) t sum n moved table (ap piece.Block same)
+  turn-other (piece.Reference r) t other sum n moved table x e k = turn-size ss i (piece.Reference r) t sum moved table r refl _ refl x e n k
+
+  pub turn-left : (p : Piece) → Turn ss i p → NotMark p → (sum : ℕ) (moved : Bool) (table : List ℕ) (x : SizeFor) → x ≡ sizePiece table p → x ≡ TooNarrow
+      → walkFrom (drop i ss) i sum moved table ≡ leftAt i
+  turn-left (piece.Mark m) t other sum moved table x e k = absurd other
+  turn-left (piece.Block b) t other sum moved table x e k =
+      let q : Bytes b ≡ TooNarrow = sym e ∙ k in
+      let z : _≡_ {A = ℕ} 0 1 = cc in
+      absurd (omega arith)
+  turn-left (piece.Reference r) t other sum moved table x e k = turn-narrow ss i (piece.Reference r) t sum moved table r refl _ refl x e k
+
+  pub room-other : (p : Piece) → Turn ss i p → NotMark p → (sum n : ℕ) (table : List ℕ) (x : SizeFor) → x ≡ sizePiece table p → x ≡ Bytes n → Room ss i sum → Room ss (i + 1) (sum + n)
+  room-other (piece.Mark m) t other sum n table x e k h = absurd other
+  room-other (piece.Block b) t other sum n table x e k h =
+      let same : b ≡ n = let q : Bytes b ≡ Bytes n = sym e ∙ k in cc in
+      room-block ss i (piece.Block b) sum n t (ap piece.Block same) h
+  room-other (piece.Reference r) t other sum n table x e k h = room-size ss i (piece.Reference r) sum n t (found-small r _ n x e k) h
+
+  pub place-other : (p : Piece) → Turn ss i p → NotMark p → (sum n : ℕ) (table : List ℕ) → n ≡ leastPiece p → placeFrom (drop i ss) sum table ≡ placeFrom (drop (i + 1) ss) (sum + n) table
+  place-other (piece.Mark m) t other sum n table e = absurd other
+  place-other (piece.Block b) t other sum n table e = place-block ss i (piece.Block b) t sum n table (ap piece.Block (sym e))
+  place-other (piece.Reference r) t other sum n table e = place-reference ss i (piece.Reference r) t sum n table r refl e
+
+  pub start-other : (p : Piece) → Turn ss i p → NotMark p → (sum n : ℕ) (table : List ℕ) → n ≡ leastPiece p → startFrom (drop i ss) sum table ≡ startFrom (drop (i + 1) ss) (sum + n) table
+  start-other (piece.Mark m) t other sum n table e = absurd other
+  start-other (piece.Block b) t other sum n table e = start-block ss i (piece.Block b) t sum n table (ap piece.Block (sym e))
+  start-other (piece.Reference r) t other sum n table e = start-reference ss i (piece.Reference r) t sum n table r refl e
 
 -- ---- the end of a walk
 

@@ -1,2 +1,3 @@
 pub mod Pieces
 pub mod Settle
+pub mod Words

@@ -5,12 +5,11 @@ mod search;
 mod table;
 
 use crate::passes::run_passes;
-use crate::search::first_apart;
 use crate::search::first_backward;
 use crate::search::first_short;
 use crate::search::first_unplaced;
+use crate::table::less_one;
 use crate::table::place;
-use crate::table::start;
 use records::Assembler;
 use records::Soundness;
 use records::check_store;
@@ -19,9 +18,10 @@ use units::Refusal;
 ghost use mathlib.Core.Path.{_≡_};
 ghost use lib.ListN.{length, replicate};
 ghost use Rattle.records.specs.Store.{storeOf, wordsPerSection};
-ghost use Rattle.layout.specs.Passes.{settle};
+ghost use Rattle.layout.specs.Passes.{start, settle};
 ghost use Rattle.layout.specs.Answer.{answer, settlingAnswer};
 ghost use Rattle.settling.specs.Pieces.{sectionsOf, Whole, Fitting};
+ghost use Rattle.settling.specs.Words.{lessOne};
 ghost use Rattle.settling.specs.Settle.{settleAnswer, settledOf, tableAfter};
 
 // Settled: the code's length in all and the passes made; or a refusal, 6 to 12, with the table all 0.
@@ -53,14 +53,14 @@ fn settle_whole(store: Assembler, bytes: &[u8], words: &[u32], table: &mut [u32]
     if short < store.sections {
         return Settled::Refused(Refusal::ShortTable { section: short });
     }
-    place(store, bytes, words, table);
+    let apart = place(store, bytes, words, table);
     let unplaced = first_unplaced(store, bytes, words, table);
-    let apart = first_apart(store, bytes, words, table);
-    clear(table);
     if unplaced < store.sections {
+        clear(table);
         return Settled::Refused(Refusal::Unplaced { section: unplaced });
     }
     if apart < store.sections {
+        clear(table);
         return Settled::Refused(Refusal::PlacedApart { section: apart });
     }
     settle_placed(store, bytes, words, table)
@@ -69,11 +69,11 @@ fn settle_whole(store: Assembler, bytes: &[u8], words: &[u32], table: &mut [u32]
 // The start table, the passes and 12, where 7 to 9 are not the answer.
 fn settle_placed(store: Assembler, bytes: &[u8], words: &[u32], table: &mut [u32]) -> Settled
     requires { ⌜ Fitting store (now bytes) (now words) (length (now table)) ⌝ }
-    requires { ⌜ now table ≡ replicate (length (now table)) 0 ⌝ }
+    requires { ⌜ lessOne (now table) ≡ start (length (now table)) (sectionsOf store (now bytes) (now words)) ⌝ }
     ensures reply { λ r. ⌜ r ≡ settledOf (settlingAnswer (sectionsOf store (now (bytes .entry)) (now (words .entry))) (settle (length (now (table .entry))) (sectionsOf store (now (bytes .entry)) (now (words .entry))))) ⌝ }
     ensures table { λ _. ⌜ now (table .exit) ≡ tableAfter (length (now (table .entry))) (settlingAnswer (sectionsOf store (now (bytes .entry)) (now (words .entry))) (settle (length (now (table .entry))) (sectionsOf store (now (bytes .entry)) (now (words .entry))))) ⌝ }
 {
-    start(store, bytes, words, table);
+    less_one(table);
     let reply = run_passes(store, bytes, words, table);
     let Settled::LaidOut { length: _, passes } = reply else {
         return reply;

@@ -131,6 +131,19 @@ opcode-before word k op e l =
     ∙ drop-set-add k (0 ∷ word) 0 op
     ∙ ap (λ (x : List ℕ). set x 0 op) at-k
 
+-- the minimal push of 0, and of a number of one byte
+pub minimal-zero : (v : ℕ) → v ≡ 0 → 0x5f ∷ [] ≡ minimalPush v
+unfolding minimalPush leastBytes bigEndian
+minimal-zero v e = rw e
+
+pub minimal-one : (v : ℕ) → (v ≡ 0 → ⊥) → v < 256 → 0x60 ∷ v ∷ [] ≡ minimalPush v
+unfolding minimalPush leastBytes bigEndian
+minimal-one v n l =
+    let a : eqb v 0 ≡ false = ne-eqb v 0 n in
+    let b : v / 256 ≡ 0 = omega arith in
+    let c : v % 256 ≡ v = omega arith in
+    rw (a, b, c)
+
 -- a minimal push of a word that begins with k zeros
 pub minimal-of : (word : List ℕ) (k : ℕ) → length word ≡ 32 → AllBytes word → LeadingZeros word k → pushOp (32 - k) ∷ drop k word ≡ minimalPush (number word)
 unfolding minimalPush

@@ -6,6 +6,8 @@ use mathlib.Core.Bool.{Bool, _&&_}
 use lib.ListN.{length, getD}
 use lib.Dec.{ltb, eqb}
 use Rattle.records.specs.Record.{opsKind, dataKind}
+use Rattle.records.specs.Store.{Store, maxBytes, maxSections, sectionWords}
+use Rattle.records.specs.declared.record.StoredSection.{StoredSection}
 use Rattle.records.specs.Sections.{Section, mark, ops, bytes, reference}
 use Rattle.store.specs.declared.adding.BytesKind.{BytesKind}
 use Rattle.store.specs.declared.adding.BytesKind.the-variants.{Ops, Data}
@@ -36,3 +38,18 @@ pub record LeadingZeros (bs : List ℕ) (r : ℕ) : Type 0 where
   pub within : r ≤ length bs
   pub zeros : (i : ℕ) → i < r → getD bs i 0 ≡ 0
   pub ends : r < length bs → getD bs r 0 ≡ 0 → ⊥
+
+-- three words of Ops that end at the stored count
+pub record EndsInOps (x : StoredSection) (stored : ℕ) : Type 0 where
+  pub isOps : x .kind ≡ opsKind
+  pub starts : x .first ≤ stored
+  pub ends : x .second ≡ stored
+
+-- one op byte is taken, and extends a last Ops section
+pub record ExtendsOps (w : ℕ) (st : Store) : Type 0 where
+  pub room : st .storedBytes < length (st .bytes)
+  pub limit : st .storedBytes < maxBytes
+  pub few : st .sections ≤ maxSections
+  pub some : 0 < st .sections
+  pub wordsFit : w * st .sections ≤ length (st .words)
+  pub last : EndsInOps (sectionWords w st (st .sections - 1)) (st .storedBytes)

@@ -9,11 +9,14 @@ use units::AsmReference;
 use units::MarkId;
 use units::Refusal;
 ghost use mathlib.Core.Path.{_≡_};
+ghost use mathlib.Core.Bool.{true};
+ghost use mathlib.Core.List.{[], _∷_};
 ghost use Prim.Native.Nat.{_+_, _*_, _-_, _≤_, _<_};
 ghost use lib.ListN.{length, set};
-ghost use Rattle.records.specs.Store.{storeOf, wordsPerSection};
+ghost use Rattle.records.specs.Store.{storeOf, wordsPerSection, wordsAt};
+ghost use Rattle.records.specs.Sections.{ops};
 ghost use Rattle.store.specs.Calls.{builtReply, wordsOf, recordWords, over, bytesOver, noSectionLeft, addReply, addAfter};
-ghost use Rattle.store.specs.Adding.{kindNumber, bytesSection, aloneSection, lastKindIs};
+ghost use Rattle.store.specs.Adding.{EndsInOps, ExtendsOps, kindNumber, bytesSection, aloneSection, lastKindIs};
 
 // The two kinds of section that hold bytes.
 pub(crate) enum BytesKind {
@@ -74,6 +77,66 @@ pub(crate) fn add_bytes(
         bytes: end,
         sections: sections + 1,
     })
+}
+
+// Adds one op byte, as `add_bytes` does; where it extends a last Ops section, as most do, at once.
+pub(crate) fn add_op(store: Assembler, bytes: &mut [u8], words: &mut [u32], op: u8) -> Built
+    ensures reply { λ r. ⌜ builtReply r ≡ addReply wordsPerSection (ops (op ∷ [])) (storeOf store (now (bytes .entry)) (now (words .entry))) ⌝ }
+    ensures bytes { λ _. ⌜ now (bytes .exit) ≡ addAfter wordsPerSection (ops (op ∷ [])) (storeOf store (now (bytes .entry)) (now (words .entry))) .bytes ⌝ }
+    ensures words { λ _. ⌜ now (words .exit) ≡ addAfter wordsPerSection (ops (op ∷ [])) (storeOf store (now (bytes .entry)) (now (words .entry))) .words ⌝ }
+{
+    if extends_ops(store, bytes, words) {
+        let at = store.bytes;
+        let end = at + 1;
+        let sections = store.sections;
+        bytes[at as usize] = op;
+        set_end(words, sections, end);
+        return Built::Stored(Assembler {
+            sections,
+            bytes: end,
+        });
+    }
+    let added = [op];
+    add_bytes(store, bytes, words, BytesKind::Ops, &added)
+}
+
+// One op byte is taken, and extends a last Ops section; where this says no, `add_bytes` judges.
+fn extends_ops(store: Assembler, bytes: &[u8], words: &[u32]) -> bool
+    ensures { λ r. ⌜ (r ≡ true → ExtendsOps wordsPerSection (storeOf store (now (bytes .entry)) (now (words .entry)))) ⌝ }
+{
+    let stored = store.bytes;
+    let sections = store.sections;
+    if bytes.len() <= (stored as usize) {
+        return false;
+    }
+    if Assembler::MAX_BYTES <= stored {
+        return false;
+    }
+    if Assembler::MAX_SECTIONS < sections {
+        return false;
+    }
+    if sections == 0 {
+        return false;
+    }
+    if words.len() < Assembler::WORDS * (sections as usize) {
+        return false;
+    }
+    ends_in_ops(words, (sections - 1) as usize, stored)
+}
+
+// The words at a section are those of Ops that end at the stored count.
+fn ends_in_ops(words: &[u32], last: usize, stored: u32) -> bool
+    requires { ⌜ wordsPerSection * (last + 1) ≤ length (now words) ⌝ }
+    ensures { λ r. ⌜ (r ≡ true → EndsInOps (wordsAt wordsPerSection (now (words .entry)) last) stored) ⌝ }
+{
+    let at = Assembler::WORDS * last;
+    if words[at] != 1 {
+        return false;
+    }
+    if words[at + 2] != stored {
+        return false;
+    }
+    words[at + 1] <= stored
 }
 
 // Adds a section that stands alone.

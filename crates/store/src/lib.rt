@@ -7,6 +7,7 @@ use adding::Alone;
 use adding::BytesKind;
 use adding::add_alone;
 use adding::add_bytes;
+use adding::add_op;
 pub use minimal::push_minimal_u32;
 pub use minimal::push_minimal_u64;
 pub use minimal::push_minimal_u256;
@@ -70,8 +71,7 @@ pub fn push_op_byte(store: Assembler, bytes: &mut [u8], words: &mut [u32], byte:
     ensures bytes { λ _. ⌜ now (bytes .exit) ≡ pushAfter wordsPerSection (pushOpByte byte) (storeOf store (now (bytes .entry)) (now (words .entry))) .bytes ⌝ }
     ensures words { λ _. ⌜ now (words .exit) ≡ pushAfter wordsPerSection (pushOpByte byte) (storeOf store (now (bytes .entry)) (now (words .entry))) .words ⌝ }
 {
-    let ops = [byte];
-    add_bytes(store, bytes, words, BytesKind::Ops, &ops)
+    add_op(store, bytes, words, byte)
 }
 
 // Adds SWAP1 to SWAP16. Refusals: 1 bad depth (0 or above 16), 6 damaged, 4 bytes full, 5 sections full.
@@ -86,8 +86,7 @@ pub fn push_swap(store: Assembler, bytes: &mut [u8], words: &mut [u32], depth: u
     if 16 < depth {
         return Built::Refused(Refusal::BadDepth);
     }
-    let ops = [swap_op(depth)];
-    add_bytes(store, bytes, words, BytesKind::Ops, &ops)
+    add_op(store, bytes, words, swap_op(depth))
 }
 
 // Adds DUP1 to DUP16, for depth 0 to 15. Refusals: 1 bad depth (above 15), 6 damaged, 4 bytes full, 5 sections full.
@@ -99,8 +98,7 @@ pub fn push_dup(store: Assembler, bytes: &mut [u8], words: &mut [u32], depth: u8
     if 15 < depth {
         return Built::Refused(Refusal::BadDepth);
     }
-    let ops = [evm::op::DUP1 + depth];
-    add_bytes(store, bytes, words, BytesKind::Ops, &ops)
+    add_op(store, bytes, words, evm::op::DUP1 + depth)
 }
 
 // Exchanges the items at depths n and m: one SWAP of the other where one is 0, else SWAP n, m, n.

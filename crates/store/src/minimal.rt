@@ -2,6 +2,7 @@
 use crate::Built;
 use crate::adding::BytesKind;
 use crate::adding::add_bytes;
+use crate::adding::add_op;
 use crate::adding::write_bytes;
 use records::Assembler;
 use units::Refusal;
@@ -38,6 +39,13 @@ pub fn push_minimal_u64(store: Assembler, bytes: &mut [u8], words: &mut [u32], v
     ensures bytes { λ _. ⌜ now (bytes .exit) ≡ pushAfter wordsPerSection (pushMinimalU64 value) (storeOf store (now (bytes .entry)) (now (words .entry))) .bytes ⌝ }
     ensures words { λ _. ⌜ now (words .exit) ≡ pushAfter wordsPerSection (pushMinimalU64 value) (storeOf store (now (bytes .entry)) (now (words .entry))) .words ⌝ }
 {
+    if value == 0 {
+        return add_op(store, bytes, words, evm::op::PUSH0);
+    }
+    if value < 256 {
+        let push = [evm::op::PUSH0 + 1, value as u8];
+        return add_bytes(store, bytes, words, BytesKind::Ops, &push);
+    }
     let word = word_of(value);
     push_word(store, bytes, words, &word)
 }

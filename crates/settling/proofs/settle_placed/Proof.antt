@@ -1,7 +1,7 @@
 -- The passes from the start table are the settling; 12 is judged on the table that they left.
 -- Assumes nothing.
 use borrow.Author.Needs.{needs}
-use mathlib.Core.Path.{_≡_, refl, sym, ap, ap₂, _∙_, subst}
+use mathlib.Core.Path.{sym, ap, ap₂, _∙_, subst}
 use native.Mathlib.Omega.{arith}
 use Prim.Native.Nat.{ℕ, _≤_, _<_}
 use lib.ListN.{length, replicate}
@@ -14,8 +14,8 @@ use Rattle.settling.proofs.Compose.{settle-is, placed-refused, placed-b
 use Rattle.settling.proofs.settle_placed.Statement.{statement}
 use Rattle.settling.proofs.settle_placed.Tie as tie
 
-start-requires : tie.Need-start-requires
-start-requires c κs = search needs
+less-one-requires : tie.Need-less-one-requires
+less-one-requires c κs = search needs
 
 run-passes-requires : tie.Need-run-passes-requires
 run-passes-requires c κs =
@@ -23,7 +23,7 @@ run-passes-requires c κs =
     let a = start .args in
     let ss = sectionsOf (a .store) (now (a .bytes)) (now (a .words)) in
     let n = length (now (a .table)) in
-    subst (Fitting (a .store) (now (a .bytes)) (now (a .words))) (sym (c .before .before .before .start .kept .1 .1 .1 .0)) (start .pre .0)
+    subst (Fitting (a .store) (now (a .bytes)) (now (a .words))) (sym (c .before .before .before .less-one .kept .0)) (start .pre .0)
 
 enum-known-reply : tie.Need-enum-known-reply
 enum-known-reply c = search needs
@@ -40,11 +40,11 @@ returns c =
     let a = start .args in
     let ss = sectionsOf (a .store) (now (a .bytes)) (now (a .words)) in
     let n = length (now (a .table)) in
-    let laid = c .before .before .before .before .before .before .before .before .start in
+    let laid = c .before .before .before .before .before .before .before .before .less-one in
     let run = c .before .before .before .before .run-passes in
-    let same = settle-is n ss _ (laid .ensures) in
+    let same = settle-is n ss _ (laid .ensures ∙ start .pre .1) in
     let replied = run .ensures .0 ∙ ap passesReply same in
-    let left = run .ensures .1 ∙ ap₂ passesTable (laid .kept .1 .1 .1 .0) same in
+    let left = run .ensures .1 ∙ ap₂ passesTable (laid .kept .0) same in
     placed-refused n ss _ _ (settle n ss) _ replied left (c .enum-told .given .1)
 
 first-backward-requires : tie.Need-first-backward-requires
@@ -53,7 +53,7 @@ first-backward-requires c κs =
     let a = start .args in
     let ss = sectionsOf (a .store) (now (a .bytes)) (now (a .words)) in
     let n = length (now (a .table)) in
-    subst (Fitting (a .store) (now (a .bytes)) (now (a .words))) (sym (c .before .before .before .before .before .before .run-passes .kept .1 .1 .1 .0 ∙ c .before .before .before .before .before .before .before .before .before .before .start .kept .1 .1 .1 .0)) (start .pre .0)
+    subst (Fitting (a .store) (now (a .bytes)) (now (a .words))) (sym (c .before .before .before .before .before .before .run-passes .kept .1 .1 .1 .0 ∙ c .before .before .before .before .before .before .before .before .before .before .less-one .kept .0)) (start .pre .0)
 
 clear-requires : tie.Need-clear-requires
 clear-requires c κs = search needs
@@ -67,14 +67,14 @@ returns-2 c =
     let a = start .args in
     let ss = sectionsOf (a .store) (now (a .bytes)) (now (a .words)) in
     let n = length (now (a .table)) in
-    let laid = c .before .before .before .before .before .before .before .before .before .before .before .before .before .before .before .before .before .start in
+    let laid = c .before .before .before .before .before .before .before .before .before .before .before .before .before .before .before .before .before .less-one in
     let run = c .before .before .before .before .before .before .before .before .before .before .before .before .before .run-passes in
-    let same = settle-is n ss _ (laid .ensures) in
+    let same = settle-is n ss _ (laid .ensures ∙ start .pre .1) in
     let replied = run .ensures .0 ∙ ap passesReply same in
-    let left = run .ensures .1 ∙ ap₂ passesTable (laid .kept .1 .1 .1 .0) same in
+    let left = run .ensures .1 ∙ ap₂ passesTable (laid .kept .0) same in
     let less : c .before .before .before .before .before .before .first-backward .result < length ss = omega (arith, decode-count wordsPerSection (storeOf (a .store) (now (a .bytes)) (now (a .words))), c .before .before .before .before .if1 .taken) in
     placed-backward n ss _ _ (settle n ss) _ _ _ _ replied left (c .before .before .before .before .before .before .before .before .before .reply .given .1) (c .before .before .before .before .before .before .first-backward .ensures) less
-    (c .before .before .clear .ensures ∙ ap (λ (x : ℕ). replicate x 0) (run .kept .1 .1 .1 .0 ∙ laid .kept .1 .1 .1 .0))
+    (c .before .before .clear .ensures ∙ ap (λ (x : ℕ). replicate x 0) (run .kept .1 .1 .1 .0 ∙ laid .kept .0))
 
 same-length-3 : tie.Need-same-length-3
 same-length-3 c = search needs
@@ -85,11 +85,11 @@ returns-3 c =
     let a = start .args in
     let ss = sectionsOf (a .store) (now (a .bytes)) (now (a .words)) in
     let n = length (now (a .table)) in
-    let laid = c .before .before .before .before .before .before .before .before .before .before .before .before .before .start in
+    let laid = c .before .before .before .before .before .before .before .before .before .before .before .before .before .less-one in
     let run = c .before .before .before .before .before .before .before .before .before .run-passes in
-    let same = settle-is n ss _ (laid .ensures) in
+    let same = settle-is n ss _ (laid .ensures ∙ start .pre .1) in
     let replied = run .ensures .0 ∙ ap passesReply same in
-    let left = run .ensures .1 ∙ ap₂ passesTable (laid .kept .1 .1 .1 .0) same in
+    let left = run .ensures .1 ∙ ap₂ passesTable (laid .kept .0) same in
     let more : length ss ≤ c .before .before .first-backward .result = omega (arith, decode-count wordsPerSection (storeOf (a .store) (now (a .bytes)) (now (a .words))), c .if1 .left) in
     placed-done n ss _ _ (settle n ss) _ _ _ replied left (c .before .before .before .before .before .reply .given .1) (c .before .before .first-backward .ensures) more
 
@@ -97,7 +97,7 @@ pub settle-placed-spec : {M : Type 1} → statement M
 settle-placed-spec =
     tie.close
     (tie.spec
-    start-requires
+    less-one-requires
     run-passes-requires
     enum-known-reply
     enum-told

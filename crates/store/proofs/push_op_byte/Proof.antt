@@ -1,23 +1,18 @@
 -- `push_op_byte` is the definition: what adding one op byte gives.
 -- Assumes nothing.
-use borrow.Author.Needs.{needs}
-use mathlib.Core.Path.{_≡_, sym, _∙_}
-use mathlib.Core.Path.{refl, ap}
-use Prim.Native.Nat.{ℕ}
+use mathlib.Core.Path.{refl}
 use denote.Ref.{now}
 use Rattle.records.specs.Store.{storeOf, wordsPerSection}
 use Rattle.records.specs.Sections.{ops, bytes}
-use mathlib.Core.List.{List, [], _∷_}
+use mathlib.Core.List.{[], _∷_}
 use Rattle.store.specs.Calls.{pushOpByte}
 use Rattle.store.proofs.Adds.{push-adds}
+use borrow.Author.Needs.{needs}
 use Rattle.store.proofs.push_op_byte.Statement.{statement}
 use Rattle.store.proofs.push_op_byte.Tie as tie
 
-slice-aggregate-add-bytes : tie.Need-slice-aggregate-add-bytes
-slice-aggregate-add-bytes c = search needs
-
-add-bytes-requires : tie.Need-add-bytes-requires
-add-bytes-requires c κs = search needs
+add-op-requires : tie.Need-add-op-requires
+add-op-requires c κs = search needs
 
 same-length : tie.Need-same-length
 same-length c = search needs
@@ -27,9 +22,9 @@ same-length-2 c = search needs
 
 returns : tie.Need-returns
 returns c =
-    let a = c .before .before .before .before .before .before .before .before .before .before .args in
+    let a = c .before .before .before .before .before .before .before .before .before .args in
     let st = storeOf (a .store) (now (a .bytes)) (now (a .words)) in
-    push-adds wordsPerSection (pushOpByte (a .byte)) st refl refl refl (ops (a .byte ∷ [])) _ _ _ refl (c .before .before .before .before .add-bytes .ensures)
+    push-adds wordsPerSection (pushOpByte (a .byte)) st refl refl refl (ops (a .byte ∷ [])) _ _ _ refl (c .before .before .before .before .add-op .ensures)
 
 pub push-op-byte-spec : {M : Type 1} → statement M
-push-op-byte-spec = tie.close (tie.spec slice-aggregate-add-bytes add-bytes-requires same-length same-length-2 returns)
+push-op-byte-spec = tie.close (tie.spec add-op-requires same-length same-length-2 returns)

@@ -1,91 +1,84 @@
 -- `write_section` writes the bytes of each kind of section.
 -- Assumes nothing.
-use borrow.Author.Needs.{needs}
+use mathlib.Core.Path.{sym, ap, _∙_, subst}
+use Prim.Native.Nat.{ℕ, _+_, _≤_}
+use mathlib.Core.List.{List}
+use lib.ListN.{length}
 use denote.Ref.{now}
+use Rattle.records.specs.Record.{readSection}
+use Rattle.store.specs.Calls.{over}
+use Rattle.assembler.specs.Writing.{IsReference}
+use Rattle.assembler.proofs.Words.{can-read, read-as-mark, read-as-reference, read-as-span}
 use Rattle.assembler.proofs.Writes.{asks-case, does-case, does-mark}
+use borrow.Author.Needs.{needs}
 use Rattle.assembler.proofs.write.write_section.Statement.{statement}
 use Rattle.assembler.proofs.write.write_section.Tie as tie
 
-enum-told : tie.Need-enum-told
-enum-told c = search needs
-
-enum-known-section : tie.Need-enum-known-section
-enum-known-section c = search needs
+returns : tie.Need-returns
+returns c =
+    let a = c .before .before .before .before in
+    let bytes = now (a .args .bytes) in
+    let table = now (a .args .table) in
+    let old = now (a .args .result) in
+    let x = a .args .section in
+    does-mark bytes table old (a .args .at) (readSection x) _ (read-as-mark x (can-read bytes table x (a .pre .0)) (c .if1 .taken))
 
 write-span-requires : tie.Need-write-span-requires
 write-span-requires c κs =
-    let told = c .before .before in
-    let a = told .before .before .before .before .before in
-    asks-case (now (a .args .bytes)) (now (a .args .table)) (now (a .args .result)) (a .args .at) _ _ (told .section .given .1) (a .pre)
-
-enum-known-section-2 : tie.Need-enum-known-section-2
-enum-known-section-2 c = search needs
-
-write-span-requires-2 : tie.Need-write-span-requires-2
-write-span-requires-2 c κs =
-    let told = c .before .before in
-    let a = told .before .before .before .before .before in
-    asks-case (now (a .args .bytes)) (now (a .args .table)) (now (a .args .result)) (a .args .at) _ _ (told .section2 .given .1) (a .pre)
-
-enum-known-section-3 : tie.Need-enum-known-section-3
-enum-known-section-3 c = search needs
-
-write-reference-requires : tie.Need-write-reference-requires
-write-reference-requires c κs =
-    let told = c .before .before in
-    let a = told .before .before .before .before .before in
-    asks-case (now (a .args .bytes)) (now (a .args .table)) (now (a .args .result)) (a .args .at) _ _ (told .section3 .given .1) (a .pre)
-
-returns : tie.Need-returns
-returns c =
-    let a = c .before .before .before .before .before in
-    does-mark (now (a .args .bytes)) (now (a .args .table)) (now (a .args .result)) (a .args .at) _ _ (c .enum-told .given .1)
+    let a = c .before .before .before .before .before .before in
+    let bytes = now (a .args .bytes) in
+    let table = now (a .args .table) in
+    let old = now (a .args .result) in
+    let x = a .args .section in
+    let s = read-as-span bytes table x (a .pre .0) (c .before .before .if1 .left) (c .before .if2 .taken) in
+    (s .0, subst (λ (l : List ℕ). a .args .at + length l ≤ length old) (s .1) (a .pre .1))
 
 same-length : tie.Need-same-length
 same-length c = search needs
 
 returns-2 : tie.Need-returns-2
 returns-2 c =
-    let done = c .before .before in
-    let told = done .before .before .before in
-    let a = told .before .before .before .before .before in
-    does-case (now (a .args .bytes)) (now (a .args .table)) (now (a .args .result)) (a .args .at) _ _ _ _ (told .section .given .1) (done .write-span .ensures)
+    let a = c .before .before .before .before .before .before .before .before .before in
+    let bytes = now (a .args .bytes) in
+    let table = now (a .args .table) in
+    let old = now (a .args .result) in
+    let x = a .args .section in
+    let s = read-as-span bytes table x (a .pre .0) (c .before .before .before .before .before .if1 .left) (c .before .before .before .before .if2 .taken) in (
+      c .before .before .write-span .ensures .0 ∙ ap (λ (l : List ℕ). a .args .at + length l) (sym (s .1)),
+      c .before .before .write-span .ensures .1 ∙ ap (over old (a .args .at)) (sym (s .1)),
+    )
+
+write-reference-requires : tie.Need-write-reference-requires
+write-reference-requires c κs =
+    let a = c .before .before .before .before .before .before in
+    let bytes = now (a .args .bytes) in
+    let table = now (a .args .table) in
+    let old = now (a .args .result) in
+    let x = a .args .section in
+    let is : IsReference x = (can-read bytes table x (a .pre .0), c .before .if2 .left) in
+    let asks = asks-case bytes table old (a .args .at) (readSection x) _ (read-as-reference x is) (a .pre) in
+    ((is, asks .0), asks .1)
 
 same-length-2 : tie.Need-same-length-2
 same-length-2 c = search needs
 
 returns-3 : tie.Need-returns-3
 returns-3 c =
-    let done = c .before .before in
-    let told = done .before .before .before in
-    let a = told .before .before .before .before .before in
-    does-case (now (a .args .bytes)) (now (a .args .table)) (now (a .args .result)) (a .args .at) _ _ _ _ (told .section2 .given .1) (done .write-span2 .ensures)
-
-same-length-3 : tie.Need-same-length-3
-same-length-3 c = search needs
-
-returns-4 : tie.Need-returns-4
-returns-4 c =
-    let done = c .before .before in
-    let told = done .before .before .before in
-    let a = told .before .before .before .before .before in
-    does-case (now (a .args .bytes)) (now (a .args .table)) (now (a .args .result)) (a .args .at) _ _ _ _ (told .section3 .given .1) (done .write-reference .ensures)
+    let a = c .before .before .before .before .before .before .before .before .before in
+    let bytes = now (a .args .bytes) in
+    let table = now (a .args .table) in
+    let old = now (a .args .result) in
+    let x = a .args .section in
+    does-case bytes table old (a .args .at) (readSection x) _ _ _ (read-as-reference x (can-read bytes table x (a .pre .0), c .before .before .before .before .if2 .left)) (c .before .before .write-reference .ensures)
 
 pub write-section-spec : {M : Type 1} → statement M
 write-section-spec =
     tie.close
     (tie.spec
-    enum-told
-    enum-known-section
-    write-span-requires
-    enum-known-section-2
-    write-span-requires-2
-    enum-known-section-3
-    write-reference-requires
     returns
+    write-span-requires
     same-length
     returns-2
+    write-reference-requires
     same-length-2
-    returns-3
-    same-length-3
-    returns-4)
+    returns-3)

@@ -1,74 +1,79 @@
--- The invariant: with the `left` bytes of the rest still to be written, the result is as it is to be. The measure is the bytes left.
+-- `write_value` picks by the count.
 -- Assumes nothing.
-use Prim.Native.Nat.{ℕ, suc, _+_, _-_, _%_, _≤_, _<_}
+use mathlib.Core.Path.{sym, ap, _∙_}
 use native.Mathlib.Omega.{arith}
-use native.Mathlib.Nat.{mod-lt}
-use mathlib.Core.Path.{_≡_, refl, sym, _∙_, ap}
-use lib.ListN.{length, length-set}
+use Prim.Native.Nat.{ℕ}
+use denote.Ref.{now}
 use Rattle.units.specs.Numbers.{bigEndian}
 use Rattle.store.specs.Calls.{over}
-use Rattle.emission.proofs.Rows.{over-nothing, over-digit}
+use Rattle.assembler.proofs.Writes.{digits-none}
+use borrow.Author.Needs.{needs}
 use Rattle.assembler.proofs.write.write_value.Statement.{statement}
 use Rattle.assembler.proofs.write.write_value.Tie as tie
 
-abbrev Inv-loop : tie.InvT-loop
-Inv-loop count value result₀ at left₀ rest₀ result left rest = (left ≤ count) × (length result ≡ length result₀) × (over result at (bigEndian left rest) ≡ over result₀ at (bigEndian count value))
+write-one-requires : tie.Need-write-one-requires
+write-one-requires c κs = omega (arith, c .before .before .before .pre .1, c .before .if1 .taken)
 
-abbrev μ-loop : tie.MeasureT-loop
-μ-loop count value result₀ at left₀ rest₀ result left rest = left
+same-length : tie.Need-same-length
+same-length c = search needs
 
-loop-holds : tie.Need-loop-holds Inv-loop μ-loop
-loop-holds c = (omega arith, refl, refl)
-
-sub-left : tie.Need-sub-left Inv-loop μ-loop
-sub-left c = omega arith
-
-cast-result : tie.Need-cast-result Inv-loop μ-loop
-cast-result c =
-    let small : c .before .loop .rest % 256 < 256 = mod-lt (c .before .loop .rest) (omega arith) in
-    omega arith
-
-add-result : tie.Need-add-result Inv-loop μ-loop
-add-result c = omega (arith, c .before .before .pre)
-
-slice-write-result : tie.Need-slice-write-result Inv-loop μ-loop
-slice-write-result c = omega (arith, c .before .before .pre)
-
-loop-less : tie.Need-loop-less Inv-loop μ-loop
-loop-less c = omega arith
-
-loop-again : tie.Need-loop-again Inv-loop μ-loop
-loop-again c =
-    let a = c .before .before .args in
-    let turn = c .before .loop in
-    let n : ℕ = turn .left - 1 in
-    let one : suc n ≡ turn .left = omega arith in
-    let fits : a .at + n < length (turn .result) = omega (arith, c .before .before .pre) in
-    (omega arith, simp length-set (turn .inv .1), over-digit (turn .result) (a .at) n (turn .rest) fits ∙ ap (λ (k : ℕ). over (turn .result) (a .at) (bigEndian k (turn .rest))) one ∙ turn .inv .2)
-
-same-length : tie.Need-same-length Inv-loop μ-loop
-same-length c = c .before .loop .inv .1
-
-returns : tie.Need-returns Inv-loop μ-loop
-unfolding bigEndian
+returns : tie.Need-returns
 returns c =
-    let a = c .before .before .args in
-    let turn = c .before .loop in
-    let none : turn .left ≡ 0 = omega arith in
-    sym (over-nothing (turn .result) (a .at)) ∙ ap (λ (k : ℕ). over (turn .result) (a .at) (bigEndian k (turn .rest))) (sym none) ∙ turn .inv .2
+    let a = c .before .before .before .before .before .before .args in
+    c .before .before .write-one .ensures ∙ ap (λ (k : ℕ). over (now (a .result)) (a .at) (bigEndian k (a .value))) (sym (c .before .before .before .before .if1 .taken))
+
+write-two-requires : tie.Need-write-two-requires
+write-two-requires c κs = omega (arith, c .before .before .before .before .pre .1, c .before .if2 .taken)
+
+same-length-2 : tie.Need-same-length-2
+same-length-2 c = search needs
+
+returns-2 : tie.Need-returns-2
+returns-2 c =
+    let a = c .before .before .before .before .before .before .before .args in
+    c .before .before .write-two .ensures ∙ ap (λ (k : ℕ). over (now (a .result)) (a .at) (bigEndian k (a .value))) (sym (c .before .before .before .before .if2 .taken))
+
+write-three-requires : tie.Need-write-three-requires
+write-three-requires c κs = omega (arith, c .before .before .before .before .before .pre .1, c .before .if3 .taken)
+
+same-length-3 : tie.Need-same-length-3
+same-length-3 c = search needs
+
+returns-3 : tie.Need-returns-3
+returns-3 c =
+    let a = c .before .before .before .before .before .before .before .before .args in
+    c .before .before .write-three .ensures ∙ ap (λ (k : ℕ). over (now (a .result)) (a .at) (bigEndian k (a .value))) (sym (c .before .before .before .before .if3 .taken))
+
+write-four-requires : tie.Need-write-four-requires
+write-four-requires c κs = omega (arith, c .before .before .before .before .before .before .pre .1, c .before .if4 .taken)
+
+same-length-4 : tie.Need-same-length-4
+same-length-4 c = search needs
+
+returns-4 : tie.Need-returns-4
+returns-4 c =
+    let a = c .before .before .before .before .before .before .before .before .before .args in
+    c .before .before .write-four .ensures ∙ ap (λ (k : ℕ). over (now (a .result)) (a .at) (bigEndian k (a .value))) (sym (c .before .before .before .before .if4 .taken))
+
+returns-5 : tie.Need-returns-5
+returns-5 c =
+    let start = c .before .before .before .before .before in
+    digits-none (now (start .args .result)) (start .args .at) (start .args .count) (start .args .value) (start .pre .0) (c .before .before .before .if1 .left) (c .before .before .if2 .left) (c .before .if3 .left) (c .if4 .left)
 
 pub write-value-spec : {M : Type 1} → statement M
 write-value-spec =
     tie.close
     (tie.spec
-    Inv-loop
-    μ-loop
-    loop-holds
-    sub-left
-    cast-result
-    add-result
-    slice-write-result
-    loop-less
-    loop-again
+    write-one-requires
     same-length
-    returns)
+    returns
+    write-two-requires
+    same-length-2
+    returns-2
+    write-three-requires
+    same-length-3
+    returns-3
+    write-four-requires
+    same-length-4
+    returns-4
+    returns-5)

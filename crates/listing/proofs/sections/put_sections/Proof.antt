@@ -1,7 +1,6 @@
 -- The invariant: putting the sections from i on, from here, is putting them all from the start. The measure is what is left.
 -- Assumes nothing.
 use borrow.Author.Needs.{needs}
-use mathlib.Core.Path.{sym, _∙_}
 use Prim.Native.Nat.{_-_, _≤_}
 use native.Mathlib.Omega.{arith}
 use denote.Ref.{now}
@@ -11,7 +10,7 @@ use Rattle.listing.specs.Listing.{listing}
 use Rattle.listing.proofs.Puts.{Left, left-start}
 use Rattle.listing.proofs.Turns.{left-is}
 use Rattle.listing.proofs.Undamaged.{sound-facts}
-use Rattle.listing.proofs.Every.{rest, rest-start, every-turn, every-room, every-done, never, section-in}
+use Rattle.listing.proofs.Every.{rest, rest-start, every-turn, every-room, every-done, read-in}
 use Rattle.listing.proofs.sections.put_sections.Statement.{statement}
 use Rattle.listing.proofs.sections.put_sections.Tie as tie
 
@@ -26,38 +25,20 @@ abbrev μ-loop : tie.MeasureT-loop
 loop-holds : tie.Need-loop-holds Inv-loop μ-loop
 loop-holds c = (omega arith, left-is (rest-start _ _) (left-start _ _ _))
 
-cast-section-at : tie.Need-cast-section-at Inv-loop μ-loop
-cast-section-at c = search needs
+cast-section-words : tie.Need-cast-section-words Inv-loop μ-loop
+cast-section-words c = search needs
 
-section-at-requires : tie.Need-section-at-requires Inv-loop μ-loop
-section-at-requires c κs =
-    let s = c .before .before .before .before .before .before in
+section-words-requires : tie.Need-section-words-requires Inv-loop μ-loop
+section-words-requires c κs =
+    let s = c .before .before .before .before .before .before .before in
     let st = storeOf (s .args .store) (now (s .args .bytes)) (now (s .args .words)) in
-    omega (arith, sound-facts _ st (s .pre .sound) .wordsFit, c .before .before .loop .inv .0)
+    omega (arith, sound-facts _ st (s .pre .sound) .wordsFit, c .before .before .before .loop .inv .0)
 
-enum-known-read : tie.Need-enum-known-read Inv-loop μ-loop
-enum-known-read c = search needs
-
-enum-told : tie.Need-enum-told Inv-loop μ-loop
-enum-told c = search needs
-
-same-length : tie.Need-same-length Inv-loop μ-loop
-same-length c = c .before .before .before .before .before .loop .inv .1 .same
-
-returns : tie.Need-returns Inv-loop μ-loop
-returns c =
-    let s = c .before .before .before .before .before .before .before .before .before in
+put-words-requires : tie.Need-put-words-requires Inv-loop μ-loop
+put-words-requires c κs =
+    let s = c .before .before .before .before .before .before .before .before in
     let st = storeOf (s .args .store) (now (s .args .bytes)) (now (s .args .words)) in
-    absurd (never _ st (sound-facts _ st (s .pre .sound)) _ (c .before .before .before .if1 .taken) (sym (c .before .before .section-at .ensures) ∙ c .enum-told .given .1))
-
-put-section-requires : tie.Need-put-section-requires Inv-loop μ-loop
-put-section-requires c κs =
-    let s = c .before .before .before .before .before .before .before .before .before .before .before in
-    let st = storeOf (s .args .store) (now (s .args .bytes)) (now (s .args .words)) in
-    let facts = sound-facts _ st (s .pre .sound) in
-    let test = c .before .before .before .before .before .if1 .taken in
-    let read = sym (c .before .before .before .before .section-at .ensures) ∙ c .before .before .read .given .1 in
-    (section-in _ st facts _ _ test read, every-room _ st _ test _ read (c .before .before .before .before .before .before .before .loop .inv .1) (s .pre .room))
+    (read-in _ st (sound-facts _ st (s .pre .sound)) _ _ (c .before .before .if1 .taken) (c .section-words .ensures), every-room _ st _ (c .before .before .if1 .taken) _ (c .section-words .ensures) (c .before .before .before .before .loop .inv .1) (s .pre .room))
 
 add-i : tie.Need-add-i Inv-loop μ-loop
 add-i c = omega arith
@@ -67,19 +48,31 @@ loop-less c = omega arith
 
 loop-again : tie.Need-loop-again Inv-loop μ-loop
 loop-again c =
-    let s = c .before .before .before .before .before .before .before .before .before .before .before .before .before .before in
+    let s = c .before .before .before .before .before .before .before .before .before .before .before in
     let st = storeOf (s .args .store) (now (s .args .bytes)) (now (s .args .words)) in
-    let read = sym (c .before .before .before .before .before .before .before .section-at .ensures) ∙ c .before .before .before .before .before .read .given .1 in
-    (omega arith, every-turn _ st _ (c .before .before .before .before .before .before .before .before .if1 .taken) _ read (c .before .before .before .before .before .before .before .before .before .before .loop .inv .1) (c .before .before .put-section .ensures))
+    (omega arith, every-turn _ st _ (c .before .before .before .before .before .if1 .taken) _ (c .before .before .before .section-words .ensures) (c .before .before .before .before .before .before .before .loop .inv .1) (c .before .before .put-words .ensures))
 
-same-length-2 : tie.Need-same-length-2 Inv-loop μ-loop
-same-length-2 c = c .before .before .loop .inv .1 .same
+same-length : tie.Need-same-length Inv-loop μ-loop
+same-length c = c .before .before .loop .inv .1 .same
 
-returns-2 : tie.Need-returns-2 Inv-loop μ-loop
-returns-2 c =
+returns : tie.Need-returns Inv-loop μ-loop
+returns c =
     let s = c .before .before .before .before .before .before in
     let st = storeOf (s .args .store) (now (s .args .bytes)) (now (s .args .words)) in
     every-done _ st _ (c .if1 .left) (c .before .before .loop .inv .1)
 
 pub put-sections-spec : {M : Type 1} → statement M
-put-sections-spec = tie.close (tie.spec Inv-loop μ-loop loop-holds cast-section-at section-at-requires enum-known-read enum-told same-length returns put-section-requires add-i loop-less loop-again same-length-2 returns-2)
+put-sections-spec =
+    tie.close
+    (tie.spec
+    Inv-loop
+    μ-loop
+    loop-holds
+    cast-section-words
+    section-words-requires
+    put-words-requires
+    add-i
+    loop-less
+    loop-again
+    same-length
+    returns)

@@ -1,15 +1,13 @@
 -- The invariant: the first short section from i on is the first of all. The measure is what is left.
 -- Assumes nothing.
-use borrow.Author.Needs.{needs}
-use mathlib.Core.Path.{_≡_, refl, sym, ap, _∙_}
+use mathlib.Core.Path.{sym, _∙_}
 use native.Mathlib.Omega.{arith}
-use Prim.Native.Nat.{ℕ, _+_, _-_, _≤_, _<_}
-use lib.ListN.{length}
+use Prim.Native.Nat.{_-_}
 use denote.Ref.{now}
 use Rattle.records.specs.Store.{storeOf, wordsPerSection}
 use Rattle.settling.specs.Pieces.{sectionsOf}
 use Rattle.layout.specs.Conditions.{shortAt}
-use Rattle.settling.proofs.Sections.{decode-count, words-fit, turn as turn-is}
+use Rattle.settling.proofs.Sections.{decode-count, words-fit, turn-words as turn-is, readable-words}
 use Rattle.settling.proofs.Searches.{Sought, sought-start, sought-hit, sought-next, sought-done, short-first, short-test}
 use Rattle.settling.proofs.search.first_short.Statement.{statement}
 use Rattle.settling.proofs.search.first_short.Tie as tie
@@ -23,11 +21,11 @@ abbrev μ-loop : tie.MeasureT-loop
 loop-holds : tie.Need-loop-holds Inv-loop μ-loop
 loop-holds c = sought-start _ _
 
-cast-piece-at : tie.Need-cast-piece-at Inv-loop μ-loop
-cast-piece-at c = omega arith
+cast-section-words : tie.Need-cast-section-words Inv-loop μ-loop
+cast-section-words c = omega arith
 
-piece-at-requires : tie.Need-piece-at-requires Inv-loop μ-loop
-piece-at-requires c κs =
+section-words-requires : tie.Need-section-words-requires Inv-loop μ-loop
+section-words-requires c κs =
     let turn = c .before .before in
     let start = turn .before .before .before in
     let a = start .args in
@@ -36,7 +34,11 @@ piece-at-requires c κs =
     words-fit (a .store) (now (a .bytes)) (now (a .words)) (start .pre) i (c .if1 .taken)
 
 is-short-requires : tie.Need-is-short-requires Inv-loop μ-loop
-is-short-requires c κs = search needs
+is-short-requires c κs =
+    let turn = c .before .before .before in
+    let start = turn .before .before .before in
+    let a = start .args in
+    readable-words (a .store) (now (a .bytes)) (now (a .words)) (start .pre) (turn .loop .i) _ (c .before .if1 .taken) (c .section-words .ensures)
 
 returns : tie.Need-returns Inv-loop μ-loop
 returns c =
@@ -45,7 +47,7 @@ returns c =
     let a = start .args in
     let ss = sectionsOf (a .store) (now (a .bytes)) (now (a .words)) in
     let i = turn .loop .i in
-    let t = turn-is (a .store) (now (a .bytes)) (now (a .words)) (start .pre) i _ (c .before .before .before .if1 .taken) (c .before .before .piece-at .ensures) in
+    let t = turn-is (a .store) (now (a .bytes)) (now (a .words)) (start .pre) i _ (c .before .before .before .if1 .taken) (c .before .before .section-words .ensures) in
     let test = sym (short-test (a .limit) ss i _ t) ∙ sym (c .before .is-short .ensures) ∙ c .if2 .taken in
     sought-hit _ (shortAt (a .limit) ss) i (turn .loop .inv) (c .before .before .before .if1 .taken) test ∙ short-first (a .limit) ss (a .store .sections) (decode-count wordsPerSection (storeOf (a .store) (now (a .bytes)) (now (a .words))))
 
@@ -62,7 +64,7 @@ loop-again c =
     let a = start .args in
     let ss = sectionsOf (a .store) (now (a .bytes)) (now (a .words)) in
     let i = turn .loop .i in
-    let t = turn-is (a .store) (now (a .bytes)) (now (a .words)) (start .pre) i _ (c .before .before .before .if1 .taken) (c .before .before .piece-at .ensures) in
+    let t = turn-is (a .store) (now (a .bytes)) (now (a .words)) (start .pre) i _ (c .before .before .before .if1 .taken) (c .before .before .section-words .ensures) in
     let test = sym (short-test (a .limit) ss i _ t) ∙ sym (c .before .is-short .ensures) ∙ c .if2 .left in
     sought-next _ (shortAt (a .limit) ss) i (turn .loop .inv) (c .before .before .before .if1 .taken) test
 
@@ -82,8 +84,8 @@ first-short-spec =
     Inv-loop
     μ-loop
     loop-holds
-    cast-piece-at
-    piece-at-requires
+    cast-section-words
+    section-words-requires
     is-short-requires
     returns
     add-i
