@@ -176,13 +176,15 @@ pub extern "C" fn sadrokki_push_direct(
     ensures reply { λ r. ⌜ r ≡ referenceNumber wordsPerSection (direct mark) (formOf form) (storeIn state (now (bytes .entry)) (now (words .entry))) ⌝ }
     ensures words { λ _. ⌜ now (words .exit) ≡ referenceAfter wordsPerSection (direct mark) (formOf form) (storeIn state (now (bytes .entry)) (now (words .entry))) ⌝ }
 {
-    push_formed(
-        state,
-        bytes,
-        words,
-        MarkReference::Direct(MarkId(mark)),
-        form,
-    )
+    let Form::Names(set_size, pushed) = form_of(form) else {
+        return NAMES_NOTHING;
+    };
+    let reference = AsmReference {
+        mark_ref: MarkReference::Direct(MarkId(mark)),
+        set_size,
+        pushed,
+    };
+    built_number(store::push_reference(counts_in(state), bytes, words, reference))
 }
 
 // Adds a reference to end's offset minus start's, in a form. Refusals: 255, 3, 6, 5.
@@ -198,29 +200,15 @@ pub extern "C" fn sadrokki_push_delta(
     ensures reply { λ r. ⌜ r ≡ referenceNumber wordsPerSection (delta start end) (formOf form) (storeIn state (now (bytes .entry)) (now (words .entry))) ⌝ }
     ensures words { λ _. ⌜ now (words .exit) ≡ referenceAfter wordsPerSection (delta start end) (formOf form) (storeIn state (now (bytes .entry)) (now (words .entry))) ⌝ }
 {
+    let Form::Names(set_size, pushed) = form_of(form) else {
+        return NAMES_NOTHING;
+    };
     let span = MarkSpan {
         start: MarkId(start),
         end: MarkId(end),
     };
-    push_formed(state, bytes, words, MarkReference::Delta(span), form)
-}
-
-// A reference in a form, or that the form names nothing.
-fn push_formed(
-    state: u64,
-    bytes: &[u8],
-    words: &mut [u32],
-    mark_ref: MarkReference,
-    form: u32,
-) -> u64
-    ensures reply { λ r. ⌜ r ≡ referenceNumber wordsPerSection «mark_ref» (formOf form) (storeIn state (now (bytes .entry)) (now (words .entry))) ⌝ }
-    ensures words { λ _. ⌜ now (words .exit) ≡ referenceAfter wordsPerSection «mark_ref» (formOf form) (storeIn state (now (bytes .entry)) (now (words .entry))) ⌝ }
-{
-    let Form::Names(set_size, pushed) = form_of(form) else {
-        return NAMES_NOTHING;
-    };
     let reference = AsmReference {
-        mark_ref,
+        mark_ref: MarkReference::Delta(span),
         set_size,
         pushed,
     };

@@ -17,11 +17,9 @@ use Rattle.records.specs.declared.damage.Soundness.{Soundness}
 use Rattle.records.specs.declared.damage.Soundness.the-variants.{Sound, Damaged}
 use Rattle.records.specs.declared.record.StoredSection.{StoredSection}
 use Rattle.store.specs.Calls.{Push, hasBadDepth, hasBadWord, hasLargeMark, added, bytesOf, wordsOf, recordWords, over, joins, joined, appended, withSection, bytesPass, noSectionLeft, sectionPasses, roomReply, addReply, pushReply, addAfter, pushAfter}
-use Rattle.store.specs.Adding.{kindNumber, bytesSection, aloneSection, lastKindIs}
+use Rattle.store.specs.Adding.{kindNumber, bytesSection, Alone, aloneMark, aloneReference, aloneSection, lastKindIs}
 use Rattle.store.specs.declared.adding.BytesKind.{BytesKind}
 use Rattle.store.specs.declared.adding.BytesKind.the-variants.{Ops, Data}
-use Rattle.store.specs.declared.adding.Alone.{Alone}
-use Rattle.store.specs.declared.adding.Alone.the-variants.{Mark, Reference}
 
 -- the answer, the bytes and the words that adding a section gives
 abbrev pub Adds : ℕ → Section → Store → Reply → List ℕ → List ℕ → Type 0
@@ -93,17 +91,17 @@ bytes-appended w Data bs st s r j f = add-appended w (bytes bs) st s r j f
 
 -- sections that stand alone: they hold no bytes and join nothing
 pub alone-words-any : (at : ℕ) (al : Alone) → wordsOf at (aloneSection al) ≡ wordsOf 0 (aloneSection al)
-alone-words-any at (Mark m) = refl
-alone-words-any at (Reference r) = refl
+alone-words-any at (aloneMark m) = refl
+alone-words-any at (aloneReference r) = refl
 
 alone-bytes : (al : Alone) → bytesOf (aloneSection al) ≡ []
-alone-bytes (Mark m) = refl
-alone-bytes (Reference r) = refl
+alone-bytes (aloneMark m) = refl
+alone-bytes (aloneReference r) = refl
 
 pub alone-apart : (w : ℕ) (al : Alone) (st : Store) → joins w (aloneSection al) st ≡ false
 unfolding joins
-alone-apart w (Mark m) st = and-false (ltb 0 (st .sections))
-alone-apart w (Reference r) st = and-false (ltb 0 (st .sections))
+alone-apart w (aloneMark m) st = and-false (ltb 0 (st .sections))
+alone-apart w (aloneReference r) st = and-false (ltb 0 (st .sections))
 
 pub alone-room : (w : ℕ) (al : Alone) (st : Store) → lastSoundness w st ≡ Sound → bytesPass (aloneSection al) st ≡ false
 unfolding bytesPass

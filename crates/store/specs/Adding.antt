@@ -11,8 +11,7 @@ use Rattle.records.specs.declared.record.StoredSection.{StoredSection}
 use Rattle.records.specs.Sections.{Section, mark, ops, bytes, reference}
 use Rattle.store.specs.declared.adding.BytesKind.{BytesKind}
 use Rattle.store.specs.declared.adding.BytesKind.the-variants.{Ops, Data}
-use Rattle.store.specs.declared.adding.Alone.{Alone}
-use Rattle.store.specs.declared.adding.Alone.the-variants.{Mark, Reference}
+use Rattle.units.specs.declared.AsmReference.{AsmReference}
 
 -- the kind word of a section that holds bytes
 abbrev pub kindNumber : BytesKind → ℕ
@@ -24,10 +23,14 @@ abbrev pub bytesSection : BytesKind → List ℕ → Section
 bytesSection Ops bs = ops bs
 bytesSection Data bs = bytes bs
 
--- the section that stands alone
+-- a section that nothing extends
+pub data Alone : Type 0 where
+  aloneMark : ℕ → Alone
+  aloneReference : AsmReference → Alone
+
 abbrev pub aloneSection : Alone → Section
-aloneSection (Mark m) = mark (m .0)
-aloneSection (Reference r) = reference r
+aloneSection (aloneMark m) = mark m
+aloneSection (aloneReference r) = reference r
 
 -- there is a last section, and its kind is this
 unfoldable pub lastKindIs : ℕ → ℕ → List ℕ → ℕ → Bool

@@ -4,9 +4,6 @@ use records::Assembler;
 use records::Soundness;
 use records::StoredSection;
 use records::check_last;
-use records::reference_words;
-use units::AsmReference;
-use units::MarkId;
 use units::Refusal;
 ghost use mathlib.Core.Path.{_≡_};
 ghost use mathlib.Core.Bool.{true};
@@ -16,18 +13,12 @@ ghost use lib.ListN.{length, set};
 ghost use Rattle.records.specs.Store.{storeOf, wordsPerSection, wordsAt};
 ghost use Rattle.records.specs.Sections.{ops};
 ghost use Rattle.store.specs.Calls.{builtReply, wordsOf, recordWords, over, bytesOver, noSectionLeft, addReply, addAfter};
-ghost use Rattle.store.specs.Adding.{EndsInOps, ExtendsOps, kindNumber, bytesSection, aloneSection, lastKindIs};
+ghost use Rattle.store.specs.Adding.{EndsInOps, ExtendsOps, kindNumber, bytesSection, Alone, aloneSection, lastKindIs};
 
 // The two kinds of section that hold bytes.
 pub(crate) enum BytesKind {
     Ops,
     Data,
-}
-
-// A section that nothing extends.
-pub(crate) enum Alone {
-    Mark(MarkId),
-    Reference(AsmReference),
 }
 
 // Adds op bytes or data, all or nothing: they extend a last section of their kind, else a section is added.
@@ -139,10 +130,15 @@ fn ends_in_ops(words: &[u32], last: usize, stored: u32) -> bool
     words[at + 1] <= stored
 }
 
-// Adds a section that stands alone.
-pub(crate) fn add_alone(store: Assembler, bytes: &[u8], words: &mut [u32], alone: Alone) -> Built
-    ensures reply { λ r. ⌜ builtReply r ≡ addReply wordsPerSection (aloneSection alone) (storeOf store (now (bytes .entry)) (now (words .entry))) ⌝ }
-    ensures words { λ _. ⌜ now (words .exit) ≡ addAfter wordsPerSection (aloneSection alone) (storeOf store (now (bytes .entry)) (now (words .entry))) .words ⌝ }
+// Adds a section that stands alone, given as its words.
+pub(crate) fn add_alone(
+    store: Assembler,
+    bytes: &[u8],
+    words: &mut [u32],
+    section: StoredSection,
+) -> Built
+    ensures reply { λ r. ⌜ ((alone : Alone) → section ≡ wordsOf 0 (aloneSection alone) → builtReply r ≡ addReply wordsPerSection (aloneSection alone) (storeOf store (now (bytes .entry)) (now (words .entry)))) ⌝ }
+    ensures words { λ _. ⌜ ((alone : Alone) → section ≡ wordsOf 0 (aloneSection alone) → now (words .exit) ≡ addAfter wordsPerSection (aloneSection alone) (storeOf store (now (bytes .entry)) (now (words .entry))) .words) ⌝ }
 {
     if let Soundness::Damaged(section) = check_last(store, bytes, words) {
         return Built::Refused(Refusal::Damaged { section });
@@ -151,10 +147,10 @@ pub(crate) fn add_alone(store: Assembler, bytes: &[u8], words: &mut [u32], alone
     if no_section_left(sections, words) {
         return Built::Refused(Refusal::SectionsFull);
     }
-    append_section(words, sections, alone_words(alone));
+    append_section(words, sections, section);
     Built::Stored(Assembler {
-        bytes: store.bytes,
         sections: sections + 1,
+        bytes: store.bytes,
     })
 }
 
@@ -164,19 +160,6 @@ fn kind_number(kind: BytesKind) -> u32
     match kind {
         BytesKind::Ops => 1,
         BytesKind::Data => 2,
-    }
-}
-
-fn alone_words(alone: Alone) -> StoredSection
-    ensures { λ r. ⌜ r ≡ wordsOf 0 (aloneSection alone) ⌝ }
-{
-    match alone {
-        Alone::Mark(mark) => StoredSection {
-            kind: 0,
-            first: mark.0,
-            second: 0,
-        },
-        Alone::Reference(r) => reference_words(r),
     }
 }
 

@@ -8,6 +8,7 @@ use denote.Ref.{now}
 use Rattle.records.specs.Store.{storeOf, wordsPerSection}
 use borrow.Author.Tests.{lt-ltb, le-ltb}
 use Rattle.store.specs.Calls.{pushMark}
+use Rattle.store.specs.Adding.{aloneMark}
 use Rattle.store.proofs.Adds.{push-large-mark, push-reply, push-after}
 use Rattle.records.specs.Store.{Store}
 use Rattle.store.proofs.push_mark.Statement.{statement}
@@ -33,7 +34,8 @@ returns-2 c =
     let small = le-ltb _ _ (c .before .before .before .before .if1 .left) in
     let p = pushMark (a .mark .0) in
     let made = c .before .before .add-alone .ensures in
-    (made .0 ∙ push-reply wordsPerSection p st refl refl small, made .1 ∙ ap (λ (x : Store). x .words) (push-after wordsPerSection p st refl refl small))
+    let alone = aloneMark (a .mark .0) in
+    (made .0 alone refl ∙ push-reply wordsPerSection p st refl refl small, made .1 alone refl ∙ ap (λ (x : Store). x .words) (push-after wordsPerSection p st refl refl small))
 
 pub push-mark-spec : {M : Type 1} → statement M
 push-mark-spec = tie.close (tie.spec returns add-alone-requires same-length returns-2)

@@ -26,8 +26,8 @@ returns : tie.Need-returns
 returns c =
     let a = c .before .before .before .before .before .before .before .args in
     let st = storeOf (a .store) (now (a .bytes)) (now (a .words)) in
-    let all = add-damaged wordsPerSection (aloneSection (a .alone)) st _ (sym (c .before .before .before .check-last .ensures) ∙ c .before .section .given .1) in
-    (all .0, all .1 .1)
+    let damaged = sym (c .before .before .before .check-last .ensures) ∙ c .before .section .given .1 in
+    (λ alone e. add-damaged wordsPerSection (aloneSection alone) st _ damaged .0, λ alone e. add-damaged wordsPerSection (aloneSection alone) st _ damaged .1 .1)
 
 enum-told : tie.Need-enum-told
 enum-told c = search needs
@@ -43,34 +43,33 @@ returns-2 c =
     let a = c .before .before .before .before .before .before .before .before .before .args in
     let st = storeOf (a .store) (now (a .bytes)) (now (a .words)) in
     let sound = sym (c .before .before .before .before .before .check-last .ensures) ∙ c .before .before .before .enum-told .given .1 in
-    let all = add-sections-full wordsPerSection (aloneSection (a .alone)) st sound (alone-room wordsPerSection (a .alone) st sound) (alone-apart wordsPerSection (a .alone) st) (sym (c .before .no-section-left .ensures) ∙ c .if1 .taken) in
-    (all .0, all .1 .1)
-
-alone-words-requires : tie.Need-alone-words-requires
-alone-words-requires c κs = search needs
+    let full = sym (c .before .no-section-left .ensures) ∙ c .if1 .taken in (
+      λ alone e. add-sections-full wordsPerSection (aloneSection alone) st sound (alone-room wordsPerSection alone st sound) (alone-apart wordsPerSection alone st) full .0,
+      λ alone e. add-sections-full wordsPerSection (aloneSection alone) st sound (alone-room wordsPerSection alone st sound) (alone-apart wordsPerSection alone st) full .1 .1,
+    )
 
 append-section-requires : tie.Need-append-section-requires
 append-section-requires c κs =
-    let a = c .before .before .before .before .before .before .before .before .before .before .before .args in
+    let a = c .before .before .before .before .before .before .before .before .before .before .args in
     let st = storeOf (a .store) (now (a .bytes)) (now (a .words)) in
-    left-fits wordsPerSection (a .store .sections) (now (a .words)) (sym (c .before .before .before .no-section-left .ensures) ∙ c .before .before .if1 .left) .1
+    left-fits wordsPerSection (a .store .sections) (now (a .words)) (sym (c .before .before .no-section-left .ensures) ∙ c .before .if1 .left) .1
 
-add-t19 : tie.Need-add-t19
-add-t19 c =
-    let a = c .before .before .before .before .before .before .before .before .before .before .before .before .before .before .args in
+add-t18 : tie.Need-add-t18
+add-t18 c =
+    let a = c .before .before .before .before .before .before .before .before .before .before .before .before .before .args in
     let st = storeOf (a .store) (now (a .bytes)) (now (a .words)) in
-    omega (arith, left-fits wordsPerSection (a .store .sections) (now (a .words)) (sym (c .before .before .before .before .before .before .no-section-left .ensures) ∙ c .before .before .before .before .before .if1 .left) .0)
+    omega (arith, left-fits wordsPerSection (a .store .sections) (now (a .words)) (sym (c .before .before .before .before .before .no-section-left .ensures) ∙ c .before .before .before .before .if1 .left) .0)
 
 same-length-3 : tie.Need-same-length-3
 same-length-3 c = c .before .before .append-section .kept .0
 
 returns-3 : tie.Need-returns-3
 returns-3 c =
-    let a = c .before .before .before .before .before .before .before .before .before .before .before .before .before .before .args in
+    let a = c .before .before .before .before .before .before .before .before .before .before .before .before .before .args in
     let st = storeOf (a .store) (now (a .bytes)) (now (a .words)) in
-    let sound = sym (c .before .before .before .before .before .before .before .before .before .before .check-last .ensures) ∙ c .before .before .before .before .before .before .before .before .enum-told .given .1 in
-    let all = alone-appended wordsPerSection (a .alone) st _ sound (sym (c .before .before .before .before .before .before .no-section-left .ensures) ∙ c .before .before .before .before .before .if1 .left) (c .before .before .before .alone-words .ensures) in
-    (all .0, c .before .before .append-section .ensures ∙ all .1)
+    let sound = sym (c .before .before .before .before .before .before .before .before .before .check-last .ensures) ∙ c .before .before .before .before .before .before .before .enum-told .given .1 in
+    let left = sym (c .before .before .before .before .before .no-section-left .ensures) ∙ c .before .before .before .before .if1 .left in
+    (λ alone e. alone-appended wordsPerSection alone st _ sound left e .0, λ alone e. c .before .before .append-section .ensures ∙ alone-appended wordsPerSection alone st _ sound left e .1)
 
 pub add-alone-spec : {M : Type 1} → statement M
-add-alone-spec = tie.close (tie.spec check-last-requires enum-known-section same-length returns enum-told no-section-left-requires same-length-2 returns-2 alone-words-requires append-section-requires add-t19 same-length-3 returns-3)
+add-alone-spec = tie.close (tie.spec check-last-requires enum-known-section same-length returns enum-told no-section-left-requires same-length-2 returns-2 append-section-requires add-t18 same-length-3 returns-3)

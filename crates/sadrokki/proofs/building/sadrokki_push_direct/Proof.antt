@@ -3,9 +3,10 @@
 use borrow.Author.Needs.{needs}
 use denote.Ref.{now}
 use Rattle.store.specs.Calls.{pushReference}
+use Rattle.sadrokki.specs.Forms.{direct}
 use Rattle.sadrokki.proofs.Answers.{built-packs, formed-nothing, formed-names}
-use Rattle.sadrokki.proofs.building.push_formed.Statement.{statement}
-use Rattle.sadrokki.proofs.building.push_formed.Tie as tie
+use Rattle.sadrokki.proofs.building.sadrokki_push_direct.Statement.{statement}
+use Rattle.sadrokki.proofs.building.sadrokki_push_direct.Tie as tie
 
 form-of-requires : tie.Need-form-of-requires
 form-of-requires c κs = search needs
@@ -19,7 +20,7 @@ enum-told c = search needs
 returns : tie.Need-returns
 returns c =
     let a = c .before .before .before .before .before .args in
-    formed-nothing (a .mark-ref) (a .state) (now (a .bytes)) (now (a .words)) (a .form) _ (c .before .before .form-of .ensures) (c .enum-told .given .1)
+    formed-nothing (direct (a .mark)) (a .state) (now (a .bytes)) (now (a .words)) (a .form) _ (c .before .before .form-of .ensures) (c .enum-told .given .1)
 
 counts-in-requires : tie.Need-counts-in-requires
 counts-in-requires c κs = search needs
@@ -40,7 +41,7 @@ returns-2 c =
     let a = c .before .before .before .before .before .before .before .before .before .before .before .before .args in
     let is = c .before .before .before .before .before .counts-in .ensures in
     let form = c .before .before .before .before .before .before .before .before .before .form-of .ensures in
-    formed-names (a .mark-ref) (a .state) (now (a .bytes)) (now (a .words)) (a .form) _ form _ _ (c .before .before .before .before .before .before .before .set-size .given .1) _ is _ _ (c .before .before .before .push-reference .ensures) (c .built-number .ensures)
+    formed-names (direct (a .mark)) (a .state) (now (a .bytes)) (now (a .words)) (a .form) _ form _ _ (c .before .before .before .before .before .before .before .set-size .given .1) _ is _ _ (c .before .before .before .push-reference .ensures) (c .built-number .ensures)
 
-pub push-formed-spec : {M : Type 1} → statement M
-push-formed-spec = tie.close (tie.spec form-of-requires enum-known-set-size enum-told returns counts-in-requires push-reference-requires built-number-requires same-length returns-2)
+pub sadrokki-push-direct-spec : {M : Type 1} → statement M
+sadrokki-push-direct-spec = tie.close (tie.spec form-of-requires enum-known-set-size enum-told returns counts-in-requires push-reference-requires built-number-requires same-length returns-2)
