@@ -82,21 +82,40 @@ fn least(turns: u32, pair: &mut Pair, ours: fn(&mut Pair), theirs: fn(&mut Pair)
     best
 }
 
-fn shown(time: Duration) -> String {
-    let ns = time.as_nanos() as f64;
+fn shown(ns: f64) -> String {
     match ns {
-        0.0..1e4 => format!("{ns:.0} ns"),
+        0.0..100.0 => format!("{ns:.2} ns"),
+        100.0..1e4 => format!("{ns:.0} ns"),
         1e4..1e6 => format!("{:.1} us", ns / 1e3),
         _ => format!("{:.2} ms", ns / 1e6),
     }
 }
 
-fn row(name: &str, best: (Duration, Duration)) {
-    if ORIGINAL {
-        let ratio = best.0.as_nanos() as f64 / best.1.as_nanos() as f64;
-        println!("| {name} | {} | {} | {ratio:.2} |", shown(best.0), shown(best.1));
-    } else {
-        println!("| {name} | {} | | |", shown(best.0));
+/// A row as it is kept: the name, ours and the original's nanoseconds, divided by a number.
+fn row(name: &str, best: (Duration, Duration), by: f64) {
+    println!("{name}\t{}\t{}", best.0.as_nanos() as f64 / by, best.1.as_nanos() as f64 / by);
+}
+
+/// The rows of several links of this program as one table: the least of each.
+fn table(kept: &str) {
+    let mut rows: Vec<(&str, f64, f64)> = Vec::new();
+    for line in kept.lines() {
+        let mut parts = line.split('\t');
+        let name = parts.next().expect("a name");
+        let mut time = || parts.next().and_then(|t| t.parse::<f64>().ok()).expect("a time");
+        let (ours, theirs) = (time(), time());
+        match rows.iter_mut().find(|row| row.0 == name) {
+            Some(row) => *row = (name, row.1.min(ours), row.2.min(theirs)),
+            None => rows.push((name, ours, theirs)),
+        }
+    }
+    println!("| row | ours | original | ratio |\n|---|---|---|---|");
+    for (name, ours, theirs) in rows {
+        if ORIGINAL {
+            println!("| {name} | {} | {} | {:.2} |", shown(ours), shown(theirs), ours / theirs);
+        } else {
+            println!("| {name} | {} | | |", shown(ours));
+        }
     }
 }
 
@@ -127,7 +146,7 @@ fn building(name: &str, calls: Vec<Call>) {
             }
         },
     );
-    row(&name, best);
+    row(&name, best, 1.0);
     compare_code(&mut pair);
 }
 
@@ -163,7 +182,7 @@ fn assembling(name: &str, turns: u32, calls: Vec<Call>) {
     let passes = compare_code(&mut pair);
     let (length, _) = pair.ours.assemble();
     let best = time_assemble(turns, &mut pair);
-    row(&format!("`assemble`, {name}: {} sections, {length} bytes, {passes} passes", pair.sections()), best);
+    row(&format!("`assemble`, {name}: {} sections, {length} bytes, {passes} passes", pair.sections()), best, 1.0);
 }
 
 fn listing(name: &str, turns: u32, calls: Vec<Call>) {
@@ -185,7 +204,7 @@ fn listing(name: &str, turns: u32, calls: Vec<Call>) {
             std::hint::black_box(p.theirs.write_asm());
         },
     );
-    row(&format!("`write_asm`, {name}: {} sections, {length} bytes of text", pair.sections()), best);
+    row(&format!("`write_asm`, {name}: {} sections, {length} bytes of text", pair.sections()), best, 1.0);
 }
 
 fn growth(sections: u32, turns: u32) {
@@ -195,18 +214,32 @@ fn growth(sections: u32, turns: u32) {
     let mut pair = Pair::new(calls::blocks(sections, 11), 1);
     let passes = compare_code(&mut pair);
     let best = time_assemble(turns, &mut pair);
-    let each = |time: Duration| time.as_nanos() as f64 / (sections as f64 * passes as f64);
-    if ORIGINAL {
-        println!("| {sections} | {passes} | {:.2} ns | {:.2} ns | {:.2} |", each(best.0), each(best.1), each(best.0) / each(best.1));
-    } else {
-        println!("| {sections} | {passes} | {:.2} ns | | |", each(best.0));
+    row(&format!("`assemble`, each section and pass: {sections} sections, {passes} passes"), best, sections as f64 * passes as f64);
+}
+
+/// So many bytes before the code that is linked after this file: where a loop comes to lie moves its
+/// time by up to a third, for both sides.
+#[cfg(shift)]
+mod shift {
+    core::arch::global_asm!(
+        ".pushsection .text.shift,\"ax\",@progbits\n.globl bench_shift\nbench_shift: .skip {}\n.popsection",
+        const include!(concat!(env!("SHIFT"), "/shift")),
+    );
+    unsafe extern "C" {
+        fn bench_shift();
     }
+    #[used]
+    static SHIFT: unsafe extern "C" fn() = bench_shift;
 }
 
 fn main() {
+    if std::env::args().nth(1).is_some_and(|word| word == "--table") {
+        let file = std::env::args().nth(2).expect("a file of rows");
+        table(&std::fs::read_to_string(file).expect("readable"));
+        return;
+    }
     let many = 100_000;
     let mut r = Random(7);
-    println!("| row | ours | original | ratio |\n|---|---|---|---|");
     building("building, mix", calls::contract(6000, 3));
     building("`push_op_byte`", vec![Call::Op(0x01); many]);
     building("`push_swap`", vec![Call::Swap(3); many]);
@@ -227,7 +260,6 @@ fn main() {
     listing("blocks", 20, calls::blocks(800_000, 11));
     listing("mixed kinds", 20, calls::mixed(800_000, 13));
     listing("a contract with 700 marks", 200, calls::contract(700, 5));
-    println!("\nTime of `assemble` for each section and pass, blocks:\n\n| sections | passes | ours | original | ratio |\n|---|---|---|---|---|");
     for (sections, turns) in [(10_000, 1000), (100_000, 100), (1_000_000, 30)] {
         growth(sections, turns);
     }

@@ -23,6 +23,10 @@ abbrev pub bytesSection : BytesKind → List ℕ → Section
 bytesSection Ops bs = ops bs
 bytesSection Data bs = bytes bs
 
+-- three words as a record
+abbrev pub storedSection : ℕ → ℕ → ℕ → StoredSection
+storedSection kind first second = record { kind = kind; first = first; second = second }
+
 -- a section that nothing extends
 pub data Alone : Type 0 where
   aloneMark : ℕ → Alone

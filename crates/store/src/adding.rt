@@ -13,7 +13,7 @@ ghost use lib.ListN.{length, set};
 ghost use Rattle.records.specs.Store.{storeOf, wordsPerSection, wordsAt};
 ghost use Rattle.records.specs.Sections.{ops};
 ghost use Rattle.store.specs.Calls.{builtReply, wordsOf, recordWords, over, bytesOver, noSectionLeft, addReply, addAfter};
-ghost use Rattle.store.specs.Adding.{EndsInOps, ExtendsOps, kindNumber, bytesSection, Alone, aloneSection, lastKindIs};
+ghost use Rattle.store.specs.Adding.{EndsInOps, ExtendsOps, kindNumber, bytesSection, Alone, aloneSection, storedSection, lastKindIs};
 
 // The two kinds of section that hold bytes.
 pub(crate) enum BytesKind {
@@ -130,15 +130,17 @@ fn ends_in_ops(words: &[u32], last: usize, stored: u32) -> bool
     words[at + 1] <= stored
 }
 
-// Adds a section that stands alone, given as its words.
+// Adds a section that stands alone, given as its three words. They come as numbers: a struct would go by way of memory.
 pub(crate) fn add_alone(
     store: Assembler,
     bytes: &[u8],
     words: &mut [u32],
-    section: StoredSection,
+    kind: u32,
+    first: u32,
+    second: u32,
 ) -> Built
-    ensures reply { λ r. ⌜ ((alone : Alone) → section ≡ wordsOf 0 (aloneSection alone) → builtReply r ≡ addReply wordsPerSection (aloneSection alone) (storeOf store (now (bytes .entry)) (now (words .entry)))) ⌝ }
-    ensures words { λ _. ⌜ ((alone : Alone) → section ≡ wordsOf 0 (aloneSection alone) → now (words .exit) ≡ addAfter wordsPerSection (aloneSection alone) (storeOf store (now (bytes .entry)) (now (words .entry))) .words) ⌝ }
+    ensures reply { λ r. ⌜ ((alone : Alone) → storedSection kind first second ≡ wordsOf 0 (aloneSection alone) → builtReply r ≡ addReply wordsPerSection (aloneSection alone) (storeOf store (now (bytes .entry)) (now (words .entry)))) ⌝ }
+    ensures words { λ _. ⌜ ((alone : Alone) → storedSection kind first second ≡ wordsOf 0 (aloneSection alone) → now (words .exit) ≡ addAfter wordsPerSection (aloneSection alone) (storeOf store (now (bytes .entry)) (now (words .entry))) .words) ⌝ }
 {
     if let Soundness::Damaged(section) = check_last(store, bytes, words) {
         return Built::Refused(Refusal::Damaged { section });
@@ -147,7 +149,15 @@ pub(crate) fn add_alone(
     if no_section_left(sections, words) {
         return Built::Refused(Refusal::SectionsFull);
     }
-    append_section(words, sections, section);
+    append_section(
+        words,
+        sections,
+        StoredSection {
+            kind,
+            first,
+            second,
+        },
+    );
     Built::Stored(Assembler {
         sections: sections + 1,
         bytes: store.bytes,

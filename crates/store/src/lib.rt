@@ -11,7 +11,6 @@ pub use minimal::push_minimal_u32;
 pub use minimal::push_minimal_u64;
 pub use minimal::push_minimal_u256;
 use records::Assembler;
-use records::StoredSection;
 use records::reference_words;
 use units::AsmReference;
 use units::MarkId;
@@ -36,16 +35,7 @@ pub fn push_mark(store: Assembler, bytes: &[u8], words: &mut [u32], mark: MarkId
     if Assembler::MAX_MARK < mark.0 {
         return Built::Refused(Refusal::LargeMark);
     }
-    add_alone(
-        store,
-        bytes,
-        words,
-        StoredSection {
-            kind: 0,
-            first: mark.0,
-            second: 0,
-        },
-    )
+    add_alone(store, bytes, words, 0, mark.0, 0)
 }
 
 // Adds a reference. Refusals: 3 large mark, 6 damaged, 5 sections full.
@@ -57,7 +47,15 @@ pub fn push_reference(store: Assembler, bytes: &[u8], words: &mut [u32], r: AsmR
     if names_large_mark(mark_ref) {
         return Built::Refused(Refusal::LargeMark);
     }
-    add_alone(store, bytes, words, reference_words(r))
+    let section = reference_words(r);
+    add_alone(
+        store,
+        bytes,
+        words,
+        section.kind,
+        section.first,
+        section.second,
+    )
 }
 
 // A mark that a reference names is too large.

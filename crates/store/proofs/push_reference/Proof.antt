@@ -40,7 +40,7 @@ returns-2 c =
     let p = pushReference (a .r) in
     let made = c .before .before .add-alone .ensures in
     let alone = aloneReference (a .r) in
-    let words = c .before .before .before .reference-words .ensures in
+    let words = c .before .before .before .before .reference-words .ensures in
     (made .0 alone words ∙ push-reply wordsPerSection p st refl refl small, made .1 alone words ∙ ap (λ (x : Store). x .words) (push-after wordsPerSection p st refl refl small))
 
 pub push-reference-spec : {M : Type 1} → statement M

@@ -54,8 +54,8 @@ append-section-requires c κs =
     let st = storeOf (a .store) (now (a .bytes)) (now (a .words)) in
     left-fits wordsPerSection (a .store .sections) (now (a .words)) (sym (c .before .before .no-section-left .ensures) ∙ c .before .if1 .left) .1
 
-add-t18 : tie.Need-add-t18
-add-t18 c =
+add-t21 : tie.Need-add-t21
+add-t21 c =
     let a = c .before .before .before .before .before .before .before .before .before .before .before .before .before .args in
     let st = storeOf (a .store) (now (a .bytes)) (now (a .words)) in
     omega (arith, left-fits wordsPerSection (a .store .sections) (now (a .words)) (sym (c .before .before .before .before .before .no-section-left .ensures) ∙ c .before .before .before .before .if1 .left) .0)
@@ -72,4 +72,4 @@ returns-3 c =
     (λ alone e. alone-appended wordsPerSection alone st _ sound left e .0, λ alone e. c .before .before .append-section .ensures ∙ alone-appended wordsPerSection alone st _ sound left e .1)
 
 pub add-alone-spec : {M : Type 1} → statement M
-add-alone-spec = tie.close (tie.spec check-last-requires enum-known-section same-length returns enum-told no-section-left-requires same-length-2 returns-2 append-section-requires add-t18 same-length-3 returns-3)
+add-alone-spec = tie.close (tie.spec check-last-requires enum-known-section same-length returns enum-told no-section-left-requires same-length-2 returns-2 append-section-requires add-t21 same-length-3 returns-3)
