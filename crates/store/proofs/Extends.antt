@@ -1,4 +1,4 @@
--- One op byte that extends a last Ops section: such a store is sound, and what adding the byte gives. Assumes nothing.
+-- One op byte that extends a last Ops section, or begins one: such a store is sound, and what adding the byte gives. Assumes nothing.
 use Prim.Native.Nat.{ℕ, _+_, _*_, _-_, _≤_, _<_}
 use native.Mathlib.Numerals.{add-one}
 use native.Mathlib.Omega.{arith}
@@ -19,10 +19,10 @@ use Rattle.records.specs.declared.record.AsmSection.the-variants.{Ops}
 use Rattle.records.specs.declared.record.StoredSection.{StoredSection}
 use Rattle.records.specs.declared.damage.Soundness.the-variants.{Sound}
 use Rattle.records.proofs.Reading.{span-read, section-ops}
-use Rattle.store.specs.Calls.{over, bytesPass, joins}
-use Rattle.store.specs.Adding.{lastKindIs, EndsInOps, ExtendsOps}
+use Rattle.store.specs.Calls.{over, recordWords, bytesPass, joins}
+use Rattle.store.specs.Adding.{lastKindIs, EndsInOps, ExtendsOps, OpensOps}
 use Rattle.store.specs.declared.adding.BytesKind.the-variants as kind
-use Rattle.store.proofs.Adds.{Adds, pass-is, joins-is, bytes-joined}
+use Rattle.store.proofs.Adds.{Adds, pass-is, joins-is, bytes-joined, bytes-appended}
 
 -- such words can be read
 ends-readable : (x : StoredSection) (n : ℕ) → EndsInOps x n → unreadable (readSection x) ≡ false
@@ -33,6 +33,14 @@ ends-readable x n e =
 and-false : (b : Bool) → (b && false) ≡ false
 and-false true = refl
 and-false false = refl
+
+-- one byte over another
+over-one : (old : List ℕ) (i b : ℕ) → i < length old → set old i b ≡ over old i (b ∷ [])
+over-one old i b h = set-split old i b h ∙ ap (λ (k : ℕ). take i old ++ (b ∷ drop k old)) (sym (add-one i))
+
+-- there is room for one byte
+one-room : (st : Store) (op : ℕ) → st .storedBytes < length (st .bytes) → st .storedBytes < maxBytes → bytesPass (ops (op ∷ [])) st ≡ false
+one-room st op room limit = sym (pass-is kind.Ops (op ∷ []) st) ∙ le-ltb (min (length (st .bytes)) maxBytes) (st .storedBytes + 1) (omega arith)
 
 module _ (w : ℕ) (st : Store) (e : ExtendsOps w st) where
   pub extends-sound : lastSoundness w st ≡ Sound
@@ -60,10 +68,15 @@ module _ (w : ℕ) (st : Store) (e : ExtendsOps w st) where
   pub extends-adds : (op : ℕ)
       → Adds w (ops (op ∷ [])) st (stored (st .storedBytes + 1) (st .sections)) (set (st .bytes) (st .storedBytes) op) (set (st .words) (w * (st .sections - 1) + 2) (st .storedBytes + 1))
   extends-adds op =
-      let room : bytesPass (ops (op ∷ [])) st ≡ false = sym (pass-is kind.Ops (op ∷ []) st) ∙ le-ltb (min (length (st .bytes)) maxBytes) (st .storedBytes + 1) (omega (arith, e .room, e .limit)) in
       let joined : joins w (ops (op ∷ [])) st ≡ true = sym (joins-is w kind.Ops (op ∷ []) st) ∙ kind-last in
-      let all = bytes-joined w kind.Ops (op ∷ []) st extends-sound room joined in
+      let all = bytes-joined w kind.Ops (op ∷ []) st extends-sound (one-room st op (e .room) (e .limit)) joined in
       (all .0, (over-one (st .bytes) (st .storedBytes) op (e .room) ∙ all .1 .0, all .1 .1))
-    where
-      over-one : (old : List ℕ) (i b : ℕ) → i < length old → set old i b ≡ over old i (b ∷ [])
-      over-one old i b h = set-split old i b h ∙ ap (λ (k : ℕ). take i old ++ (b ∷ drop k old)) (sym (add-one i))
+
+-- the byte stored, and a section begun
+pub opens-adds : (w : ℕ) (st : Store) → OpensOps w st → (op : ℕ)
+    → Adds w (ops (op ∷ [])) st (stored (st .storedBytes + 1) (st .sections + 1)) (set (st .bytes) (st .storedBytes) op)
+    (over (st .words) (w * st .sections) (recordWords w (record { kind = opsKind; first = st .storedBytes; second = st .storedBytes + 1 })))
+opens-adds w st e op =
+    let apart : joins w (ops (op ∷ [])) st ≡ false = sym (joins-is w kind.Ops (op ∷ []) st) ∙ e .apart in
+    let all = bytes-appended w kind.Ops (op ∷ []) st (e .sound) (one-room st op (e .room) (e .limit)) apart (e .free) in
+    (all .0, (over-one (st .bytes) (st .storedBytes) op (e .room) ∙ all .1 .0, all .1 .1))

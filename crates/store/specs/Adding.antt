@@ -2,10 +2,13 @@
 use Prim.Native.Nat.{ℕ, _+_, _*_, _-_, _≤_, _<_}
 use mathlib.Core.Path.{_≡_}
 use mathlib.Core.List.{List}
-use mathlib.Core.Bool.{Bool, _&&_}
+use mathlib.Core.Bool.{Bool, false, _&&_}
 use lib.ListN.{length, getD}
 use lib.Dec.{ltb, eqb}
 use Rattle.records.specs.Record.{opsKind, dataKind}
+use Rattle.records.specs.Damage.{lastSoundness}
+use Rattle.records.specs.declared.damage.Soundness.the-variants.{Sound}
+use Rattle.store.specs.Calls.{noSectionLeft}
 use Rattle.records.specs.Store.{Store, maxBytes, maxSections, sectionWords}
 use Rattle.records.specs.declared.record.StoredSection.{StoredSection}
 use Rattle.records.specs.Sections.{Section, mark, ops, bytes, reference}
@@ -60,3 +63,11 @@ pub record ExtendsOps (w : ℕ) (st : Store) : Type 0 where
   pub some : 0 < st .sections
   pub wordsFit : w * st .sections ≤ length (st .words)
   pub last : EndsInOps (sectionWords w st (st .sections - 1)) (st .storedBytes)
+
+-- one op byte is taken, and begins an Ops section
+pub record OpensOps (w : ℕ) (st : Store) : Type 0 where
+  pub sound : lastSoundness w st ≡ Sound
+  pub room : st .storedBytes < length (st .bytes)
+  pub limit : st .storedBytes < maxBytes
+  pub free : noSectionLeft w (st .sections) (st .words) ≡ false
+  pub apart : lastKindIs w (st .sections) (st .words) opsKind ≡ false

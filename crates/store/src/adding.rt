@@ -13,7 +13,7 @@ ghost use lib.ListN.{length, set};
 ghost use Rattle.records.specs.Store.{storeOf, wordsPerSection, wordsAt};
 ghost use Rattle.records.specs.Sections.{ops};
 ghost use Rattle.store.specs.Calls.{builtReply, wordsOf, recordWords, over, bytesOver, noSectionLeft, addReply, addAfter};
-ghost use Rattle.store.specs.Adding.{EndsInOps, ExtendsOps, kindNumber, bytesSection, Alone, aloneSection, storedSection, lastKindIs};
+ghost use Rattle.store.specs.Adding.{EndsInOps, ExtendsOps, OpensOps, kindNumber, bytesSection, Alone, aloneSection, storedSection, lastKindIs};
 
 // The two kinds of section that hold bytes.
 pub(crate) enum BytesKind {
@@ -77,13 +77,51 @@ pub(crate) fn add_op(store: Assembler, bytes: &mut [u8], words: &mut [u32], op: 
     ensures words { λ _. ⌜ now (words .exit) ≡ addAfter wordsPerSection (ops (op ∷ [])) (storeOf store (now (bytes .entry)) (now (words .entry))) .words ⌝ }
 {
     if extends_ops(store, bytes, words) {
+        return extend_op(store, bytes, words, op);
+    }
+    begin_op(store, bytes, words, op)
+}
+
+// The byte behind those of the last Ops section.
+pub(crate) fn extend_op(store: Assembler, bytes: &mut [u8], words: &mut [u32], op: u8) -> Built
+    requires { ⌜ ExtendsOps wordsPerSection (storeOf store (now bytes) (now words)) ⌝ }
+    ensures reply { λ r. ⌜ builtReply r ≡ addReply wordsPerSection (ops (op ∷ [])) (storeOf store (now (bytes .entry)) (now (words .entry))) ⌝ }
+    ensures bytes { λ _. ⌜ now (bytes .exit) ≡ addAfter wordsPerSection (ops (op ∷ [])) (storeOf store (now (bytes .entry)) (now (words .entry))) .bytes ⌝ }
+    ensures words { λ _. ⌜ now (words .exit) ≡ addAfter wordsPerSection (ops (op ∷ [])) (storeOf store (now (bytes .entry)) (now (words .entry))) .words ⌝ }
+{
+    let at = store.bytes;
+    let end = at + 1;
+    let sections = store.sections;
+    bytes[at as usize] = op;
+    set_end(words, sections, end);
+    Built::Stored(Assembler {
+        sections,
+        bytes: end,
+    })
+}
+
+// Adds one op byte, as `add_bytes` does; where it begins an Ops section, at once.
+pub(crate) fn begin_op(store: Assembler, bytes: &mut [u8], words: &mut [u32], op: u8) -> Built
+    ensures reply { λ r. ⌜ builtReply r ≡ addReply wordsPerSection (ops (op ∷ [])) (storeOf store (now (bytes .entry)) (now (words .entry))) ⌝ }
+    ensures bytes { λ _. ⌜ now (bytes .exit) ≡ addAfter wordsPerSection (ops (op ∷ [])) (storeOf store (now (bytes .entry)) (now (words .entry))) .bytes ⌝ }
+    ensures words { λ _. ⌜ now (words .exit) ≡ addAfter wordsPerSection (ops (op ∷ [])) (storeOf store (now (bytes .entry)) (now (words .entry))) .words ⌝ }
+{
+    if opens_ops(store, bytes, words) {
         let at = store.bytes;
         let end = at + 1;
         let sections = store.sections;
         bytes[at as usize] = op;
-        set_end(words, sections, end);
-        return Built::Stored(Assembler {
+        append_section(
+            words,
             sections,
+            StoredSection {
+                kind: 1,
+                first: at,
+                second: end,
+            },
+        );
+        return Built::Stored(Assembler {
+            sections: sections + 1,
             bytes: end,
         });
     }
@@ -91,8 +129,28 @@ pub(crate) fn add_op(store: Assembler, bytes: &mut [u8], words: &mut [u32], op: 
     add_bytes(store, bytes, words, BytesKind::Ops, &added)
 }
 
+// One op byte is taken, and begins an Ops section; where this says no, `add_bytes` judges.
+fn opens_ops(store: Assembler, bytes: &[u8], words: &[u32]) -> bool
+    ensures { λ r. ⌜ (r ≡ true → OpensOps wordsPerSection (storeOf store (now (bytes .entry)) (now (words .entry)))) ⌝ }
+{
+    if let Soundness::Damaged(_) = check_last(store, bytes, words) {
+        return false;
+    }
+    let stored = store.bytes;
+    if bytes.len() <= (stored as usize) {
+        return false;
+    }
+    if Assembler::MAX_BYTES <= stored {
+        return false;
+    }
+    if no_section_left(store.sections, words) {
+        return false;
+    }
+    !last_kind_is(store.sections, words, 1)
+}
+
 // One op byte is taken, and extends a last Ops section; where this says no, `add_bytes` judges.
-fn extends_ops(store: Assembler, bytes: &[u8], words: &[u32]) -> bool
+pub(crate) fn extends_ops(store: Assembler, bytes: &[u8], words: &[u32]) -> bool
     ensures { λ r. ⌜ (r ≡ true → ExtendsOps wordsPerSection (storeOf store (now (bytes .entry)) (now (words .entry)))) ⌝ }
 {
     let stored = store.bytes;
