@@ -8,8 +8,11 @@ use units::RefSize;
 use units::SetSize;
 use units::SizeFor;
 ghost use mathlib.Core.Path.{_≡_};
+ghost use Prim.Native.Nat.{_%_};
+ghost use lib.Dec.{leb};
 ghost use Rattle.records.specs.Record.{setSizeOf};
-ghost use Rattle.sadrokki.specs.Forms.{formOf, sizeForNumber, leastSizeNumber};
+ghost use Rattle.sadrokki.specs.Forms.{formOf, formed, sizeForNumber, leastSizeNumber};
+ghost use Rattle.sadrokki.specs.Short.{isForm, formKind};
 
 // What a form names.
 pub(crate) enum Form {
@@ -38,6 +41,40 @@ pub(crate) fn form_of(form: u32) -> Form
         0..=4 => Form::Names(set_size_of(form), false),
         8..=12 => Form::Names(set_size_of(form - 8), true),
         _ => Form::Nothing,
+    }
+}
+
+// A form that names something.
+pub(crate) fn is_form(form: u32) -> bool
+    ensures { λ r. ⌜ r ≡ isForm form ⌝ }
+{
+    if form <= 4 {
+        return true;
+    }
+    if form < 8 {
+        return false;
+    }
+    form <= 12
+}
+
+// The kind word of a delta of a form.
+pub(crate) fn delta_kind(form: u32) -> u32
+    ensures { λ r. ⌜ r ≡ formKind form ⌝ }
+{
+    if form < 8 {
+        return form + 9;
+    }
+    form - 4
+}
+
+// A reference to these marks in a form.
+pub(crate) fn formed(mark_ref: MarkReference, form: u32) -> AsmReference
+    ensures { λ r. ⌜ r ≡ formed «mark_ref» (setSizeOf (form % 8)) (leb 8 form) ⌝ }
+{
+    AsmReference {
+        mark_ref,
+        set_size: set_size_of(form % 8),
+        pushed: 8 <= form,
     }
 }
 

@@ -18,3 +18,4 @@ mod building;
 mod facts;
 mod form;
 mod number;
+mod short;

@@ -1,30 +1,58 @@
--- What `push_mark` answers, as a number.
+-- At once where the tests take it, else what `push_mark` answers.
 -- Assumes nothing.
-use borrow.Author.Needs.{needs}
+use Rattle.sadrokki.proofs.Ways.{takes-alone}
+use Rattle.records.specs.Record.{maxMark}
+use Rattle.store.specs.Adding.{aloneMark, aloneReference, storedSection}
+use borrow.Author.Tests.{le-ltb}
+use mathlib.Core.Path.{_≡_, refl, sym, ap, _∙_}
 use denote.Ref.{now}
-use Rattle.store.specs.Calls.{pushMark}
-use Rattle.sadrokki.proofs.Answers.{built-packs, built-words}
+use borrow.Author.Needs.{needs}
 use Rattle.sadrokki.proofs.building.sadrokki_push_mark.Statement.{statement}
 use Rattle.sadrokki.proofs.building.sadrokki_push_mark.Tie as tie
+use Rattle.sadrokki.proofs.building.sadrokki_push_mark.Reads as reads
+use Rattle.sadrokki.proofs.building.sadrokki_push_mark.Lts as lts
+use Rattle.sadrokki.proofs.building.add_alone.Reads as add-alone-reads
+use Rattle.sadrokki.proofs.short.put_section.Reads as put-section-reads
+use Rattle.sadrokki.proofs.short.takes_section.Reads as takes-section-reads
 
-counts-in-requires : tie.Need-counts-in-requires
-counts-in-requires c κs = search needs
+takes-section-requires : tie.Need-takes-section-requires
+takes-section-requires c κs = search needs
 
-push-mark-requires : tie.Need-push-mark-requires
-push-mark-requires c κs = search needs
-
-built-number-requires : tie.Need-built-number-requires
-built-number-requires c κs =
-    let a = c .before .before .before .before .before .before .before .args in
-    built-packs (pushMark (a .mark)) (now (a .bytes)) (now (a .words)) _ _ (c .before .before .push-mark .ensures .0)
+put-section-requires : tie.Need-put-section-requires
+put-section-requires c κs =
+    let took = c .before .before .takes-section .ensures (c .before .if2 .taken) in
+    (took .few, took .free)
 
 same-length : tie.Need-same-length
 same-length c = search needs
 
 returns : tie.Need-returns
 returns c =
-    let a = c .before .before .before .before .before .before .before .before .args in
-    built-words (pushMark (a .mark)) (now (a .bytes)) (now (a .words)) (a .state) _ (c .before .before .before .before .before .counts-in .ensures) _ _ (c .before .before .before .push-mark .ensures) (c .built-number .ensures)
+    let a = c .before .before .before .before .before .before .before .before .before .before .args in
+    let took = c .before .before .before .before .before .takes-section .ensures (c .before .before .before .before .if2 .taken) in
+    let put = c .before .before .put-section .ensures in
+    let all = takes-alone (a .state) (now (a .bytes)) (now (a .words)) (aloneMark (a .mark)) (storedSection 0 (a .mark) 0) took refl (le-ltb maxMark (a .mark) (c .before .before .before .before .before .before .before .if1 .taken)) in
+    (put .0 ∙ all .0, put .1 ∙ all .1)
+
+add-alone-requires : tie.Need-add-alone-requires
+add-alone-requires c κs = search needs
+
+same-length-2 : tie.Need-same-length-2
+same-length-2 c = search needs
+
+returns-2 : tie.Need-returns-2
+returns-2 c =
+    let add = c .before .before .add-alone .ensures in
+    (add .0 (aloneMark (c .before .before .before .before .before .before .before .args .mark)) refl, add .1 (aloneMark (c .before .before .before .before .before .before .before .args .mark)) refl)
 
 pub sadrokki-push-mark-spec : {M : Type 1} → statement M
-sadrokki-push-mark-spec = tie.close (tie.spec counts-in-requires push-mark-requires built-number-requires same-length returns)
+sadrokki-push-mark-spec =
+    tie.close
+    (tie.spec
+    takes-section-requires
+    put-section-requires
+    same-length
+    returns
+    add-alone-requires
+    same-length-2
+    returns-2)

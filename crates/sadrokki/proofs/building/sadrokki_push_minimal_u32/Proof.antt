@@ -1,22 +1,29 @@
--- What `push_minimal_u32` answers, as a number.
+-- The push extends the last section at once, or is what the Rattle call answers.
 -- Assumes nothing.
-use borrow.Author.Needs.{needs}
-use denote.Ref.{now}
-use Rattle.store.specs.Calls.{pushMinimalU32}
+use Rattle.sadrokki.proofs.Ways.{extends-fewer, extends-ops, push-nine}
+use Rattle.sadrokki.specs.Numbers.{storeIn}
+use Rattle.store.specs.Calls.{pushMinimalU32, minimalPush}
+use lib.ListN.{length}
 use Rattle.sadrokki.proofs.Answers.{built-packs, built-both}
+use native.Mathlib.Omega.{arith}
+use mathlib.Core.Path.{_≡_, refl, sym, ap, _∙_}
+use denote.Ref.{now}
+use borrow.Author.Needs.{needs}
 use Rattle.sadrokki.proofs.building.sadrokki_push_minimal_u32.Statement.{statement}
 use Rattle.sadrokki.proofs.building.sadrokki_push_minimal_u32.Tie as tie
+use Rattle.sadrokki.proofs.building.sadrokki_push_minimal_u32.Reads as reads
+use Rattle.sadrokki.proofs.building.sadrokki_push_minimal_u32.Lts as lts
+use Rattle.sadrokki.proofs.number.built_number.Reads as built-number-reads
+use Rattle.sadrokki.proofs.number.counts_in.Reads as counts-in-reads
+use Rattle.sadrokki.proofs.short.extend_push.Reads as extend-push-reads
+use Rattle.sadrokki.proofs.short.extends.Reads as extends-reads
+use Rattle.store.proofs.push_minimal_u32.Reads as push-minimal-u32-reads
 
-counts-in-requires : tie.Need-counts-in-requires
-counts-in-requires c κs = search needs
+extends-requires : tie.Need-extends-requires
+extends-requires c κs = search needs
 
-push-minimal-u32-requires : tie.Need-push-minimal-u32-requires
-push-minimal-u32-requires c κs = search needs
-
-built-number-requires : tie.Need-built-number-requires
-built-number-requires c κs =
-    let a = c .before .before .before .before .before .before .before .before .before .before .args in
-    built-packs (pushMinimalU32 (a .value)) (now (a .bytes)) (now (a .words)) _ _ (c .before .before .before .before .push-minimal-u32 .ensures .0)
+extend-push-requires : tie.Need-extend-push-requires
+extend-push-requires c κs = c .before .before .before .extends .ensures (c .before .before .if1 .taken) .has
 
 same-length : tie.Need-same-length
 same-length c = search needs
@@ -26,8 +33,48 @@ same-length-2 c = search needs
 
 returns : tie.Need-returns
 returns c =
-    let a = c .before .before .before .before .before .before .before .before .before .before .before .args in
+    let a = c .before .before .before .before .before .before .before .before .before .before .before .before .before .args in
+    let took = c .before .before .before .before .before .before .before .before .extends .ensures (c .before .before .before .before .before .before .before .if1 .taken) in
+    let more = c .before .before .before .before .extend-push .ensures in
+    let push = minimalPush (a .value) in
+    let few = extends-fewer (storeIn (a .state) (now (a .bytes)) (now (a .words))) 1 9 took (length push) (push-nine (a .value) (omega arith)) in
+    let all = extends-ops (a .state) (now (a .bytes)) (now (a .words)) (pushMinimalU32 (a .value)) push refl refl refl refl few in
+    (more .0 ∙ all .0, (more .1 .0 ∙ all .1 .0, more .1 .1 ∙ all .1 .1))
+
+counts-in-requires : tie.Need-counts-in-requires
+counts-in-requires c κs = search needs
+
+push-minimal-u32-requires : tie.Need-push-minimal-u32-requires
+push-minimal-u32-requires c κs = search needs
+
+built-number-requires : tie.Need-built-number-requires
+built-number-requires c κs =
+    let a = c .before .before .before .before .before .before .before .before .before .before .before .before .before .before .args in
+    built-packs (pushMinimalU32 (a .value)) (now (a .bytes)) (now (a .words)) _ _ (c .before .before .before .before .push-minimal-u32 .ensures .0)
+
+same-length-3 : tie.Need-same-length-3
+same-length-3 c = search needs
+
+same-length-4 : tie.Need-same-length-4
+same-length-4 c = search needs
+
+returns-2 : tie.Need-returns-2
+returns-2 c =
+    let a = c .before .before .before .before .before .before .before .before .before .before .before .before .before .before .before .args in
     built-both (pushMinimalU32 (a .value)) (now (a .bytes)) (now (a .words)) (a .state) _ (c .before .before .before .before .before .before .before .before .counts-in .ensures) _ _ _ (c .before .before .before .before .before .push-minimal-u32 .ensures) (c .built-number .ensures)
 
 pub sadrokki-push-minimal-u32-spec : {M : Type 1} → statement M
-sadrokki-push-minimal-u32-spec = tie.close (tie.spec counts-in-requires push-minimal-u32-requires built-number-requires same-length same-length-2 returns)
+sadrokki-push-minimal-u32-spec =
+    tie.close
+    (tie.spec
+    extends-requires
+    extend-push-requires
+    same-length
+    same-length-2
+    returns
+    counts-in-requires
+    push-minimal-u32-requires
+    built-number-requires
+    same-length-3
+    same-length-4
+    returns-2)

@@ -1,22 +1,24 @@
--- What `push_op_byte` answers, as a number.
+-- The op byte extends the last section at once, or `begin_op` adds it.
 -- Assumes nothing.
-use borrow.Author.Needs.{needs}
-use denote.Ref.{now}
+use Rattle.sadrokki.proofs.Ways.{extends-ops}
 use Rattle.store.specs.Calls.{pushOpByte}
-use Rattle.sadrokki.proofs.Answers.{built-packs, built-both}
+use mathlib.Core.List.{[], _∷_}
+use mathlib.Core.Path.{_≡_, refl, sym, ap, _∙_}
+use denote.Ref.{now}
+use borrow.Author.Needs.{needs}
 use Rattle.sadrokki.proofs.building.sadrokki_push_op_byte.Statement.{statement}
 use Rattle.sadrokki.proofs.building.sadrokki_push_op_byte.Tie as tie
+use Rattle.sadrokki.proofs.building.sadrokki_push_op_byte.Reads as reads
+use Rattle.sadrokki.proofs.building.sadrokki_push_op_byte.Lts as lts
+use Rattle.sadrokki.proofs.building.begin_op.Reads as begin-op-reads
+use Rattle.sadrokki.proofs.short.extend_one.Reads as extend-one-reads
+use Rattle.sadrokki.proofs.short.extends.Reads as extends-reads
 
-counts-in-requires : tie.Need-counts-in-requires
-counts-in-requires c κs = search needs
+extends-requires : tie.Need-extends-requires
+extends-requires c κs = search needs
 
-push-op-byte-requires : tie.Need-push-op-byte-requires
-push-op-byte-requires c κs = search needs
-
-built-number-requires : tie.Need-built-number-requires
-built-number-requires c κs =
-    let a = c .before .before .before .before .before .before .before .before .before .before .args in
-    built-packs (pushOpByte (a .byte)) (now (a .bytes)) (now (a .words)) _ _ (c .before .before .before .before .push-op-byte .ensures .0)
+extend-one-requires : tie.Need-extend-one-requires
+extend-one-requires c κs = c .before .before .before .extends .ensures (c .before .before .if1 .taken) .has
 
 same-length : tie.Need-same-length
 same-length c = search needs
@@ -26,8 +28,34 @@ same-length-2 c = search needs
 
 returns : tie.Need-returns
 returns c =
-    let a = c .before .before .before .before .before .before .before .before .before .before .before .args in
-    built-both (pushOpByte (a .byte)) (now (a .bytes)) (now (a .words)) (a .state) _ (c .before .before .before .before .before .before .before .before .counts-in .ensures) _ _ _ (c .before .before .before .before .before .push-op-byte .ensures) (c .built-number .ensures)
+    let a = c .before .before .before .before .before .before .before .before .before .before .before .before .before .args in
+    let took = c .before .before .before .before .before .before .before .before .extends .ensures (c .before .before .before .before .before .before .before .if1 .taken) in
+    let one = c .before .before .before .before .extend-one .ensures in
+    let all = extends-ops (a .state) (now (a .bytes)) (now (a .words)) (pushOpByte (a .byte)) (a .byte ∷ []) refl refl refl refl took in
+    (one .0 ∙ all .0, (one .1 .0 ∙ all .1 .0, one .1 .1 ∙ all .1 .1))
+
+begin-op-requires : tie.Need-begin-op-requires
+begin-op-requires c κs = search needs
+
+same-length-3 : tie.Need-same-length-3
+same-length-3 c = search needs
+
+same-length-4 : tie.Need-same-length-4
+same-length-4 c = search needs
+
+returns-2 : tie.Need-returns-2
+returns-2 c = search needs
 
 pub sadrokki-push-op-byte-spec : {M : Type 1} → statement M
-sadrokki-push-op-byte-spec = tie.close (tie.spec counts-in-requires push-op-byte-requires built-number-requires same-length same-length-2 returns)
+sadrokki-push-op-byte-spec =
+    tie.close
+    (tie.spec
+    extends-requires
+    extend-one-requires
+    same-length
+    same-length-2
+    returns
+    begin-op-requires
+    same-length-3
+    same-length-4
+    returns-2)
