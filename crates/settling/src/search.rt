@@ -9,25 +9,15 @@ ghost use Rattle.layout.specs.Conditions.{firstShort, firstUnplaced, firstBackw
 ghost use Rattle.settling.specs.Pieces.{sectionsOf, Whole, Fitting, firstSums, shortPiece, unplacedPiece, backwardPiece};
 ghost use Rattle.settling.specs.Words.{pieceOfWords, Readable};
 
-// 7, for one section.
+// 7, for one section. Without branches on the kind: a branch predictor can't guess the kinds of a mixed store.
 fn is_short(section: StoredSection, limit: usize) -> bool
     requires { ⌜ Readable section ⌝ }
     ensures { λ r. ⌜ r ≡ shortPiece limit (pieceOfWords section) ⌝ }
 {
     let kind = section.kind;
-    if kind == 0 {
-        return limit <= (section.first as usize);
-    }
-    if kind < 3 {
-        return false;
-    }
-    if limit <= (section.first as usize) {
-        return true;
-    }
-    if kind == 3 {
-        return false;
-    }
-    limit <= (section.second as usize)
+    let first = limit <= (section.first as usize);
+    let second = limit <= (section.second as usize);
+    (first & ((kind == 0) | (2 < kind))) | (second & (3 < kind))
 }
 
 // The first section with a mark at or past the table's length.
