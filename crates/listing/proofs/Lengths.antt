@@ -29,13 +29,8 @@ use Rattle.records.specs.declared.record.SectionRead.the-variants.{Read}
 use Rattle.listing.specs.Decimal.{decimal}
 use Rattle.listing.specs.Listing.{hex, markName, markLine, dataLine, cutText, immediateText, instructionLine, instructionLines, opsLines, pushText, deltaText, marksText, sizeText, referenceLine, sectionText}
 use Rattle.listing.proofs.Digits.{decimal-length}
+use Rattle.listing.proofs.Turns.{hex-length}
 use Rattle.listing.proofs.Undamaged.{MarksIn, Holds}
-
--- two characters a byte
-hex-length : (bs : List ℕ) → length (hex bs) ≡ 2 * length bs
-unfolding hex
-hex-length [] = refl
-hex-length (b ∷ bs) = omega (arith, hex-length bs)
 
 -- ---- marks and data
 

@@ -68,6 +68,11 @@ left-room l h = omega (arith, l .count)
 pub left-done : {t : List ℕ} {at : ℕ} {whole now : List ℕ} {here : ℕ} → Left t at whole now here [] → Put t at whole here now
 left-done {here = here} l = record { count = sym (add-zero here) ∙ l .count; text = l .text }
 
--- one byte past the slice's end is counted alone
-pub put-past : (t : List ℕ) (at b : ℕ) → length t ≤ at → Put t at (b ∷ []) (at + 1) t
-put-past t at b h = record { count = refl; text = sym (set-out t at b h) }
+-- past the slice's end nothing is stored
+sets-out : (x t : List ℕ) (at : ℕ) → length t ≤ at → sets t at x ≡ t
+sets-out [] t at h = refl
+sets-out (a ∷ x) t at h = ap (λ (l : List ℕ). sets l (suc at) x) (set-out t at a h) ∙ sets-out x t (suc at) (omega arith)
+
+-- a text past the slice's end is counted alone
+pub put-past : (t : List ℕ) (at : ℕ) (x : List ℕ) → length t ≤ at → Put t at x (at + length x) t
+put-past t at x h = record { count = refl; text = sym (sets-out x t at h) }

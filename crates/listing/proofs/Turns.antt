@@ -1,6 +1,6 @@
 -- Laws of the loops that put text, one for each thing a loop's turn has to show: that there is room, what is left after it, and that
 -- nothing is left at the end. Assumes nothing.
-use Prim.Native.Nat.{ℕ, suc, _+_, _-_, _/_, _%_, _≤_, _<_, _^_}
+use Prim.Native.Nat.{ℕ, suc, _+_, _*_, _-_, _/_, _%_, _≤_, _<_, _^_}
 use native.Mathlib.Omega.{arith}
 use native.Mathlib.Numerals.{add-one}
 use mathlib.Core.Path.{_≡_, refl, sym, ap, _∙_, subst}
@@ -17,7 +17,7 @@ use Rattle.evm.specs.YellowPaper.{instructionLength}
 use Rattle.evm.specs.Walk.{walk}
 use Rattle.evm.proofs.Walks.{walk-next, walk-none}
 use Rattle.listing.specs.Listing.{hexDigit, hexByte, hex, dataLine, cutText, immediateText, instructionLine, instructionLines, opsLines}
-use Rattle.listing.proofs.Puts.{Left, left-step, left-room, left-done, join, room-first, room-next}
+use Rattle.listing.proofs.Puts.{Left, left-step, left-room, left-done, put-past, join, room-first, room-next}
 use Rattle.listing.proofs.Digits.{decimal-small, decimal-more}
 
 -- what is left, written otherwise
@@ -41,6 +41,24 @@ module _ {t now : List ℕ} {at here : ℕ} (added : List ℕ) (i : ℕ) where
   string-done h l = left-done (left-is (drop-of-length-le added h) l)
 
 -- ---- bytes in hex, from i to end
+
+-- two characters a byte
+pub hex-length : (bs : List ℕ) → length (hex bs) ≡ 2 * length bs
+unfolding hex
+hex-length [] = refl
+hex-length (b ∷ bs) = omega (arith, hex-length bs)
+
+-- those from start to end
+hex-count : (at : ℕ) (bs : List ℕ) (start end : ℕ) → end ≤ length bs → at + length (hex (slice start end bs)) ≡ at + 2 * (end - start)
+hex-count at bs start end k = omega (arith, hex-length (slice start end bs), length-slice start end bs k)
+
+pub hex-fits : (at : ℕ) (bs : List ℕ) (start end : ℕ) → end ≤ length bs → at + length (hex (slice start end bs)) < 2 ^ 64 → at + 2 * (end - start) < 2 ^ 64
+hex-fits at bs start end k room = omega (arith, hex-count at bs start end k)
+
+-- past the slice's end they are counted alone
+pub hex-past : {t : List ℕ} {at : ℕ} (bs : List ℕ) (start end : ℕ) → end ≤ length bs → length t ≤ at → Put t at (hex (slice start end bs)) (at + 2 * (end - start)) t
+hex-past {t} {at} bs start end k h =
+    subst (λ (r : ℕ). Put t at (hex (slice start end bs)) r t) (hex-count at bs start end k) (put-past t at (hex (slice start end bs)) h)
 
 -- two digits, as the code has them
 pub hex-two : {t n m : List ℕ} {at r s : ℕ} {hi lo : ℕ} (b : ℕ) → hi ≡ hexDigit (b / 16) → lo ≡ hexDigit (b % 16) → Put t at (hi ∷ []) r n → Put n r (lo ∷ []) s m → Put t at (hexByte b) s m

@@ -21,11 +21,14 @@ fn put_byte(text: &mut [u8], at: usize, byte: u8) -> usize
     at + 1
 }
 
-// A byte string.
+// A byte string. Where no byte can be stored it is counted at once: a listing's length is found by the same walk, on an empty slice.
 pub(crate) fn put(text: &mut [u8], at: usize, added: &[u8]) -> usize
     requires { ⌜ at + length (now added) < 2 ^ 64 ⌝ }
     ensures { λ r. ⌜ Put (now (text .entry)) at (now (added .entry)) r (now (text .exit)) ⌝ }
 {
+    if text.len() <= at {
+        return at + added.len();
+    }
     let mut here = at;
     let mut i = 0;
     while i < added.len() {
@@ -55,11 +58,14 @@ fn put_hex_byte(text: &mut [u8], at: usize, byte: u8) -> usize
     put_byte(text, next, hex_digit(byte % 16))
 }
 
-// The bytes from start to end, in hex.
+// The bytes from start to end, in hex; counted at once, as `put` does, where none can be stored.
 pub(crate) fn put_hex(text: &mut [u8], at: usize, bytes: &[u8], start: usize, end: usize) -> usize
     requires { ⌜ (start ≤ end) × (end ≤ length (now bytes)) × (at + length (hex (slice start end (now bytes))) < 2 ^ 64) ⌝ }
     ensures { λ r. ⌜ Put (now (text .entry)) at (hex (slice start end (now (bytes .entry)))) r (now (text .exit)) ⌝ }
 {
+    if text.len() <= at {
+        return at + 2 * (end - start);
+    }
     let mut here = at;
     let mut i = start;
     while i < end {

@@ -2,13 +2,13 @@
 use crate::Assembler;
 use crate::record::StoredSection;
 ghost use mathlib.Core.Path.{_≡_};
-ghost use mathlib.Core.Bool.{true, cond, _&&_};
+ghost use mathlib.Core.Bool.{cond, _&&_};
 ghost use Prim.Native.Nat.{_+_, _*_, _≤_};
 ghost use lib.Dec.{ltb, eqb};
 ghost use lib.ListN.{length};
 ghost use Rattle.records.specs.Store.{storeOf, wordsPerSection, wordsAt, badCounts};
-ghost use Rattle.records.specs.Record.{readMark, readDirect, readDelta, readSection};
-ghost use Rattle.records.specs.Damage.{unreadable, isSpan, spansEnd, brokenSection, brokenLast, brokenReply, wholeSoundness, lastSoundness};
+ghost use Rattle.records.specs.Record.{readSection};
+ghost use Rattle.records.specs.Damage.{unreadable, isSpan, greatestSecond, spansEnd, brokenSection, brokenLast, brokenReply, wholeSoundness, lastSoundness};
 
 // Sound, or the section that number 6 reports.
 pub enum Soundness {
@@ -118,7 +118,18 @@ fn spans_end(store: Assembler, bytes: &[u8], words: &[u32]) -> u32
     0
 }
 
-// A section that can't be read. This is `read_section` with nothing made of what is read: every call and every walk asks it.
+// The greatest second word of a section without bytes, by its kind word.
+fn greatest_second(kind: u32) -> u32
+    ensures { λ r. ⌜ r ≡ greatestSecond kind ⌝ }
+{
+    if kind == 0 {
+        0
+    } else {
+        if kind == 3 { 12 } else { Assembler::MAX_MARK }
+    }
+}
+
+// A section that can't be read. This is `read_section` with nothing made of what is read: every call and every walk asks it. Bytes or not is its one branch: a branch predictor can't guess the kinds of a mixed store.
 fn is_unreadable(section: StoredSection) -> bool
     ensures { λ r. ⌜ r ≡ unreadable (readSection section) ⌝ }
 {
@@ -128,50 +139,11 @@ fn is_unreadable(section: StoredSection) -> bool
     if is_span(kind) {
         return second < first;
     }
-    if kind == 0 {
-        return is_bad_mark(first, second);
-    }
-    if kind == 3 {
-        return is_bad_direct(first, second);
-    }
-    if 13 < kind {
-        return true;
-    }
-    is_bad_delta(first, second)
-}
-
-fn is_bad_mark(first: u32, second: u32) -> bool
-    ensures { λ r. ⌜ r ≡ unreadable (readMark first second) ⌝ }
-{
-    if Assembler::MAX_MARK < first {
-        return true;
-    }
-    second != 0
-}
-
-fn is_bad_direct(first: u32, second: u32) -> bool
-    ensures { λ r. ⌜ r ≡ unreadable (readDirect first second) ⌝ }
-{
-    if Assembler::MAX_MARK < first {
-        return true;
-    }
-    if second < 5 {
-        return false;
-    }
-    if second < 8 {
-        return true;
-    }
-    12 < second
-}
-
-// The same whatever its size, pushed or not.
-fn is_bad_delta(first: u32, second: u32) -> bool
-    ensures { λ r. ⌜ r ≡ unreadable (readDelta 0 true first second) ⌝ }
-{
-    if Assembler::MAX_MARK < first {
-        return true;
-    }
-    Assembler::MAX_MARK < second
+    let limit = greatest_second(kind);
+    (Assembler::MAX_MARK < first)
+        | (limit < second)
+        | (13 < kind)
+        | ((kind == 3) & (4 < second) & (second < 8))
 }
 
 // A section that can't be read, starts elsewhere than at the previous end, or, the last with bytes, ends elsewhere than at the stored count.

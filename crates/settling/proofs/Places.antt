@@ -9,20 +9,21 @@ use mathlib.Core.Logic.{_⊎_, inl, inr}
 use lib.Dec.{eqb, leb}
 use lib.ListN.{length, set, replicate, length-set, length-replicate, getD-replicate}
 use lib.Seq.{getD-set-same, getD-set-other}
-use borrow.Author.Tests.{eqb-true, eqb-false, eq-eqb, ne-eqb, leb-false, leb-true}
+use borrow.Author.Tests.{eqb-true, eqb-false, eq-eqb, ne-eqb, leb-false, leb-true, lt-ltb, le-ltb}
 use Rattle.units.specs.Reference.{leastSize}
 use Rattle.units.specs.declared.MarkReference.{MarkReference}
 use Rattle.units.specs.declared.MarkReference.the-variants.{Direct, Delta}
 use Rattle.records.specs.Sections.{Section, mark, ops, bytes, reference}
 use Rattle.layout.specs.Passes.{entry}
-use Rattle.layout.specs.Conditions.{sectionAt, sumOf, placesSome, someMark, namesSome, placed, unplacedAt, apartAt}
+use Rattle.layout.specs.Conditions.{sectionAt, sumOf, Never, placesSome, someMark, namesSome, placed, shortAt, unplacedAt, firstUnplaced, apartAt}
+use Rattle.layout.proofs.Least.{none-below, never-law}
 use Rattle.layout.proofs.Moves.{widthBy}
 use Rattle.layout.proofs.Apart.{leastBefore, placed-law, ApartBySums, apart-sums}
-use Rattle.settling.specs.Pieces.{pieceOf, shortPiece, unplacedPiece, apartPiece, placeFrom, firstSums}
+use Rattle.settling.specs.Pieces.{pieceOf, shortPiece, unplacedPiece, allPlaced, apartPiece, placeFrom, firstSums}
 use Rattle.settling.specs.declared.piece.Piece.{Piece}
 use Rattle.settling.specs.declared.piece.Piece.the-variants as piece
 use Rattle.settling.proofs.Sections.{Turn, sum-mono}
-use Rattle.settling.proofs.Searches.{direct-in, start-in, end-in}
+use Rattle.settling.proofs.Searches.{Sought, sought-hit, sought-next, sought-done, direct-in, start-in, end-in, in-table}
 
 -- ---- the entries
 
@@ -147,6 +148,54 @@ unplaced-test n ss i p table e h t =
     go (ops bs) k = refl
     go (bytes bs) k = refl
     go (reference r) k = some-same n (λ m. eqb (entry (firstSums n ss) m) 0) (λ m. not (placed ss m)) (r .«mark_ref») (λ m l. entry-unplaced n ss m l) k
+
+-- the search for an entry that is 0
+abbrev pub zeroAt : List ℕ → ℕ → Bool
+zeroAt table m = eqb (entry table m) 0
+
+module _ (table : List ℕ) (m : ℕ) (s : Sought (length table) (zeroAt table) m) where
+  pub zero-found : m < length table → entry table m ≡ 0 → false ≡ allPlaced table
+  unfolding allPlaced
+  zero-found l z = ap not (sym (lt-ltb _ (length table) (omega (arith, sought-hit (length table) (zeroAt table) m s l (eq-eqb _ 0 z)))))
+
+  pub zero-next : m < length table → (entry table m ≡ 0 → ⊥) → Sought (length table) (zeroAt table) (m + 1)
+  zero-next l z = sought-next (length table) (zeroAt table) m s l (ne-eqb _ 0 z)
+
+  pub zero-none : length table ≤ m → true ≡ allPlaced table
+  unfolding allPlaced
+  zero-none l = ap not (sym (le-ltb _ (length table) (omega (arith, sought-done (length table) (zeroAt table) m s l))))
+
+-- a reference to a table without a 0
+placed-reference : (n : ℕ) (table : List ℕ) (mr : MarkReference) → length table ≡ n → allPlaced table ≡ true → someMark (leb n) mr ≡ false → someMark (zeroAt table) mr ≡ false
+unfolding allPlaced
+placed-reference n table mr e h k = some-same n (zeroAt table) (λ m. false) mr above-zero k ∙ none mr
+  where
+    not-false : (b : Bool) → not b ≡ true → b ≡ false
+    not-false true d = absurd (true≢false (sym d))
+    not-false false d = refl
+
+    above-zero : (m : ℕ) → m < n → zeroAt table m ≡ false
+    above-zero m l = none-below (length table) (zeroAt table) m (not-false _ h) (omega arith)
+
+    none : (r : MarkReference) → someMark (λ m. false) r ≡ false
+    none (Direct m) = refl
+    none (Delta s) = refl
+
+-- so 8 is never said
+pub all-placed : (n : ℕ) (ss : List Section) (table : List ℕ) → table ≡ firstSums n ss → length table ≡ n → allPlaced table ≡ true → Never ss (shortAt n ss) → length ss ≡ firstUnplaced ss
+unfolding firstUnplaced
+all-placed n ss table e d h k = sym (never-law ss (unplacedAt ss) .1 (λ i l. never i (record { below = l; is = refl })))
+  where
+    placed-section : (s : Section) → shortPiece n (pieceOf s) ≡ false → unplacedPiece table (pieceOf s) ≡ false
+    placed-section (mark m) q = refl
+    placed-section (ops bs) q = refl
+    placed-section (bytes bs) q = refl
+    placed-section (reference r) q = placed-reference n table (r .«mark_ref») d h q
+
+    never : (i : ℕ) → Turn ss i (pieceOf (sectionAt ss i)) → unplacedAt ss i ≡ false
+    never i t =
+        let short : shortPiece n (pieceOf (sectionAt ss i)) ≡ false = in-table n ss i _ k t in
+        sym (unplaced-test n ss i _ table e short t) ∙ placed-section (sectionAt ss i) short
 
 -- ---- 9
 

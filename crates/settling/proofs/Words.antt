@@ -2,11 +2,11 @@
 use Prim.Native.Nat.{ℕ, zero, suc, _+_, _-_, _%_, _/_, _≤_, _<_}
 use native.Mathlib.Omega.{arith}
 use mathlib.Core.Path.{_≡_, refl, sym, ap, _∙_}
-use mathlib.Core.Bool.{Bool, true, false, not, _&&_, true≢false}
+use mathlib.Core.Bool.{Bool, true, false, not, _&&_, _||_, true≢false}
 use mathlib.Core.List.{List}
 use mathlib.Mathlib.Data.Bool.Basic.{or-eq-false-eq-eq-false-and-eq-false as or-false}
 use lib.Dec.{leb, ltb, eqb}
-use borrow.Author.Tests.{leb-true, leb-false, eqb-true, eqb-false, ltb-true, ltb-false, le-leb, lt-leb, eq-eqb, ne-eqb, lt-ltb, le-ltb}
+use borrow.Author.Tests.{leb-true, leb-false, eqb-true, eqb-false, ltb-true, ltb-false, eq-eqb, ne-eqb, lt-ltb, le-ltb}
 use Rattle.units.specs.Numbers.{heldBytes}
 use Rattle.units.specs.Reference.{refSizeBytes, opBytes, leastSize, size, tooNarrow, sizeFor}
 use Rattle.units.specs.declared.SetSize.{SetSize}
@@ -179,31 +179,37 @@ form-raw {k} {a} {b} (a-direct t s q d) l = absurd (omega arith)
 form-raw {k} {a} {b} (a-delta g s true d) l = absurd (omega (arith, size-four s))
 form-raw {k} {a} {b} (a-delta g s false d) l = omega arith
 
--- 7
-pub short-block : {k a b : ℕ} {p : Piece} → (n : ℕ) → Kind k a b p → (k ≡ 0 → ⊥) → k < 3 → false ≡ shortPiece n p
-short-block {k} {a} {b} n v z l = sym (ap (shortPiece n) (as-block v z l .1))
+-- two tests, each with the flag that says whether it counts
+only-first : (x y : Bool) → (x && true || y && false) ≡ x
+only-first true y = refl
+only-first false true = refl
+only-first false false = refl
+
+neither : (x y : Bool) → (x && false || y && false) ≡ false
+neither true true = refl
+neither true false = refl
+neither false true = refl
+neither false false = refl
+
+both : (x y : Bool) → (x && true || y && true) ≡ (x || y)
+both true y = refl
+both false true = refl
+both false false = refl
+
+-- 7, all kinds in one test: the first word is a mark but in a block, the second in a delta only
+abbrev shortWords : ℕ → ℕ → ℕ → ℕ → Bool
+shortWords n k a b = leb n a && (eqb k 0 || ltb 2 k) || leb n b && ltb 3 k
 
 module _ (n : ℕ) where
-  pub short-mark : {k a b : ℕ} {p : Piece} → Kind k a b p → k ≡ 0 → leb n a ≡ shortPiece n p
-  short-mark v e = sym (ap (shortPiece n) (as-mark v e))
-
-  pub short-first : {k a b : ℕ} {p : Piece} → Kind k a b p → 3 ≤ k → n ≤ a → true ≡ shortPiece n p
-  short-first {k} {a} {b} (a-mark z) o l = absurd (omega arith)
-  short-first {k} {a} {b} (a-block g m c) o l = absurd (omega arith)
-  short-first {k} {a} {b} (a-direct t s q d) o l = sym (le-leb n a l)
-  short-first {k} {a} {b} (a-delta g s q d) o l = let h : leb n a ≡ true = le-leb n a l in rw h
-
-  pub short-one : {k a b : ℕ} {p : Piece} → Kind k a b p → k ≡ 3 → a < n → false ≡ shortPiece n p
-  short-one {k} {a} {b} (a-mark z) e l = absurd (omega arith)
-  short-one {k} {a} {b} (a-block g c d) e l = absurd (omega arith)
-  short-one {k} {a} {b} (a-direct t s q d) e l = sym (lt-leb n a l)
-  short-one {k} {a} {b} (a-delta g s q d) e l = absurd (omega arith)
-
-  pub short-second : {k a b : ℕ} {p : Piece} → Kind k a b p → 3 ≤ k → (k ≡ 3 → ⊥) → a < n → leb n b ≡ shortPiece n p
-  short-second {k} {a} {b} (a-mark z) o e l = absurd (omega arith)
-  short-second {k} {a} {b} (a-block g c d) o e l = absurd (omega arith)
-  short-second {k} {a} {b} (a-direct t s q d) o e l = absurd (e t)
-  short-second {k} {a} {b} (a-delta g s q d) o e l = let h : leb n a ≡ false = lt-leb n a l in rw h
+  pub short-words : {k a b : ℕ} {p : Piece} → Kind k a b p → shortWords n k a b ≡ shortPiece n p
+  short-words {k} {a} {b} (a-mark z) = rw z (only-first (leb n a) (leb n b))
+  short-words {k} {a} {b} (a-block g m o) =
+      let z : eqb k 0 ≡ false = ne-eqb k 0 (λ h. omega arith) in
+      rw (z, le-ltb 2 k m, le-ltb 3 k (omega arith)) (neither (leb n a) (leb n b))
+  short-words {k} {a} {b} (a-direct t s q d) = rw t (only-first (leb n a) (leb n b))
+  short-words {k} {a} {b} (a-delta g s q d) =
+      let z : eqb k 0 ≡ false = ne-eqb k 0 (λ h. omega arith) in
+      rw (z, lt-ltb 2 k (omega arith), lt-ltb 3 k g) (both (leb n a) (leb n b))
 
   -- the marks of what isn't short are in the table
   pub first-in : {k a b : ℕ} {p : Piece} → Kind k a b p → (1 ≤ k → 3 ≤ k) → shortPiece n p ≡ false → a < n

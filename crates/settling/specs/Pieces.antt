@@ -15,7 +15,7 @@ use Rattle.records.specs.declared.record.AsmSection.the-variants.{Mark, Ops, Da
 use Rattle.records.specs.declared.record.SectionRead.{SectionRead}
 use Rattle.records.specs.declared.record.SectionRead.the-variants.{Read, Damaged}
 use Rattle.layout.specs.Passes.{entry, Settling, settled, narrowAt, unsettled}
-use Rattle.layout.specs.Conditions.{Never, someMark, shortAt, backwardBy}
+use Rattle.layout.specs.Conditions.{Never, someBelow, someMark, shortAt, backwardBy}
 use Rattle.store_view.specs.View.{Undamaged}
 use Rattle.units.specs.declared.reply.Refusal.{Refusal}
 use Rattle.settling.specs.declared.Settled.{Settled}
@@ -70,6 +70,10 @@ abbrev pub unplacedPiece : List ℕ → Piece → Bool
 unplacedPiece table (piece.Mark m) = false
 unplacedPiece table (piece.Block k) = false
 unplacedPiece table (piece.Reference r) = someMark (λ m. eqb (entry table m) 0) (r .«mark_ref»)
+
+-- no entry of such a table is 0
+unfoldable pub allPlaced : List ℕ → Bool
+allPlaced table = not (someBelow (length table) (λ m. eqb (entry table m) 0))
 
 -- 9, by a table of the sums before the first placings, plus 1, and the sum before this one
 abbrev pub apartPiece : List ℕ → ℕ → Piece → Bool

@@ -6,28 +6,18 @@ ghost use mathlib.Core.Path.{_≡_};
 ghost use mathlib.Core.Bool.{false};
 ghost use lib.ListN.{length};
 ghost use Rattle.layout.specs.Conditions.{firstShort, firstUnplaced, firstBackward};
-ghost use Rattle.settling.specs.Pieces.{sectionsOf, Whole, Fitting, firstSums, shortPiece, unplacedPiece, backwardPiece};
+ghost use Rattle.settling.specs.Pieces.{sectionsOf, Whole, Fitting, firstSums, shortPiece, unplacedPiece, allPlaced, backwardPiece};
 ghost use Rattle.settling.specs.Words.{pieceOfWords, Readable};
 
-// 7, for one section.
+// 7, for one section. Without branches on the kind: a branch predictor can't guess the kinds of a mixed store.
 fn is_short(section: StoredSection, limit: usize) -> bool
     requires { ⌜ Readable section ⌝ }
     ensures { λ r. ⌜ r ≡ shortPiece limit (pieceOfWords section) ⌝ }
 {
     let kind = section.kind;
-    if kind == 0 {
-        return limit <= (section.first as usize);
-    }
-    if kind < 3 {
-        return false;
-    }
-    if limit <= (section.first as usize) {
-        return true;
-    }
-    if kind == 3 {
-        return false;
-    }
-    limit <= (section.second as usize)
+    let first = limit <= (section.first as usize);
+    let second = limit <= (section.second as usize);
+    (first & ((kind == 0) | (2 < kind))) | (second & (3 < kind))
 }
 
 // The first section with a mark at or past the table's length.
@@ -62,12 +52,29 @@ fn is_unplaced(section: StoredSection, table: &[u32]) -> bool
     table[section.second as usize] == 0
 }
 
-// The first reference to a mark that is never placed.
+// Every mark that the table has room for is placed.
+fn all_placed(table: &[u32]) -> bool
+    ensures { λ r. ⌜ r ≡ allPlaced (now (table .entry)) ⌝ }
+{
+    let mut m = 0;
+    while m < table.len() {
+        if table[m] == 0 {
+            return false;
+        }
+        m += 1;
+    }
+    true
+}
+
+// The first reference to a mark that is never placed. Where all are placed, the sections need no walk.
 pub(crate) fn first_unplaced(store: Assembler, bytes: &[u8], words: &[u32], table: &[u32]) -> u32
     requires { ⌜ Fitting store (now bytes) (now words) (length (now table)) ⌝ }
     requires { ⌜ now table ≡ firstSums (length (now table)) (sectionsOf store (now bytes) (now words)) ⌝ }
     ensures { λ r. ⌜ r ≡ firstUnplaced (sectionsOf store (now (bytes .entry)) (now (words .entry))) ⌝ }
 {
+    if all_placed(table) {
+        return store.sections;
+    }
     let mut i: u32 = 0;
     while i < store.sections {
         if is_unplaced(section_words(words, i as usize), table) {

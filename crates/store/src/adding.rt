@@ -6,14 +6,13 @@ use records::StoredSection;
 use records::check_last;
 use units::Refusal;
 ghost use mathlib.Core.Path.{_≡_};
-ghost use mathlib.Core.Bool.{true};
 ghost use mathlib.Core.List.{[], _∷_};
 ghost use Prim.Native.Nat.{_+_, _*_, _-_, _≤_, _<_};
 ghost use lib.ListN.{length, set};
-ghost use Rattle.records.specs.Store.{storeOf, wordsPerSection, wordsAt};
+ghost use Rattle.records.specs.Store.{storeOf, wordsPerSection};
 ghost use Rattle.records.specs.Sections.{ops};
 ghost use Rattle.store.specs.Calls.{builtReply, wordsOf, recordWords, over, bytesOver, noSectionLeft, addReply, addAfter};
-ghost use Rattle.store.specs.Adding.{EndsInOps, ExtendsOps, OpensOps, kindNumber, bytesSection, Alone, aloneSection, storedSection, lastKindIs};
+ghost use Rattle.store.specs.Adding.{kindNumber, bytesSection, Alone, aloneSection, storedSection, lastKindIs};
 
 // The two kinds of section that hold bytes.
 pub(crate) enum BytesKind {
@@ -70,122 +69,14 @@ pub(crate) fn add_bytes(
     })
 }
 
-// Adds one op byte, as `add_bytes` does; where it extends a last Ops section, as most do, at once.
+// Adds one op byte.
 pub(crate) fn add_op(store: Assembler, bytes: &mut [u8], words: &mut [u32], op: u8) -> Built
     ensures reply { λ r. ⌜ builtReply r ≡ addReply wordsPerSection (ops (op ∷ [])) (storeOf store (now (bytes .entry)) (now (words .entry))) ⌝ }
     ensures bytes { λ _. ⌜ now (bytes .exit) ≡ addAfter wordsPerSection (ops (op ∷ [])) (storeOf store (now (bytes .entry)) (now (words .entry))) .bytes ⌝ }
     ensures words { λ _. ⌜ now (words .exit) ≡ addAfter wordsPerSection (ops (op ∷ [])) (storeOf store (now (bytes .entry)) (now (words .entry))) .words ⌝ }
 {
-    if extends_ops(store, bytes, words) {
-        return extend_op(store, bytes, words, op);
-    }
-    begin_op(store, bytes, words, op)
-}
-
-// The byte behind those of the last Ops section.
-pub(crate) fn extend_op(store: Assembler, bytes: &mut [u8], words: &mut [u32], op: u8) -> Built
-    requires { ⌜ ExtendsOps wordsPerSection (storeOf store (now bytes) (now words)) ⌝ }
-    ensures reply { λ r. ⌜ builtReply r ≡ addReply wordsPerSection (ops (op ∷ [])) (storeOf store (now (bytes .entry)) (now (words .entry))) ⌝ }
-    ensures bytes { λ _. ⌜ now (bytes .exit) ≡ addAfter wordsPerSection (ops (op ∷ [])) (storeOf store (now (bytes .entry)) (now (words .entry))) .bytes ⌝ }
-    ensures words { λ _. ⌜ now (words .exit) ≡ addAfter wordsPerSection (ops (op ∷ [])) (storeOf store (now (bytes .entry)) (now (words .entry))) .words ⌝ }
-{
-    let at = store.bytes;
-    let end = at + 1;
-    let sections = store.sections;
-    bytes[at as usize] = op;
-    set_end(words, sections, end);
-    Built::Stored(Assembler {
-        sections,
-        bytes: end,
-    })
-}
-
-// Adds one op byte, as `add_bytes` does; where it begins an Ops section, at once.
-pub(crate) fn begin_op(store: Assembler, bytes: &mut [u8], words: &mut [u32], op: u8) -> Built
-    ensures reply { λ r. ⌜ builtReply r ≡ addReply wordsPerSection (ops (op ∷ [])) (storeOf store (now (bytes .entry)) (now (words .entry))) ⌝ }
-    ensures bytes { λ _. ⌜ now (bytes .exit) ≡ addAfter wordsPerSection (ops (op ∷ [])) (storeOf store (now (bytes .entry)) (now (words .entry))) .bytes ⌝ }
-    ensures words { λ _. ⌜ now (words .exit) ≡ addAfter wordsPerSection (ops (op ∷ [])) (storeOf store (now (bytes .entry)) (now (words .entry))) .words ⌝ }
-{
-    if opens_ops(store, bytes, words) {
-        let at = store.bytes;
-        let end = at + 1;
-        let sections = store.sections;
-        bytes[at as usize] = op;
-        append_section(
-            words,
-            sections,
-            StoredSection {
-                kind: 1,
-                first: at,
-                second: end,
-            },
-        );
-        return Built::Stored(Assembler {
-            sections: sections + 1,
-            bytes: end,
-        });
-    }
     let added = [op];
     add_bytes(store, bytes, words, BytesKind::Ops, &added)
-}
-
-// One op byte is taken, and begins an Ops section; where this says no, `add_bytes` judges.
-fn opens_ops(store: Assembler, bytes: &[u8], words: &[u32]) -> bool
-    ensures { λ r. ⌜ (r ≡ true → OpensOps wordsPerSection (storeOf store (now (bytes .entry)) (now (words .entry)))) ⌝ }
-{
-    if let Soundness::Damaged(_) = check_last(store, bytes, words) {
-        return false;
-    }
-    let stored = store.bytes;
-    if bytes.len() <= (stored as usize) {
-        return false;
-    }
-    if Assembler::MAX_BYTES <= stored {
-        return false;
-    }
-    if no_section_left(store.sections, words) {
-        return false;
-    }
-    !last_kind_is(store.sections, words, 1)
-}
-
-// One op byte is taken, and extends a last Ops section; where this says no, `add_bytes` judges.
-pub(crate) fn extends_ops(store: Assembler, bytes: &[u8], words: &[u32]) -> bool
-    ensures { λ r. ⌜ (r ≡ true → ExtendsOps wordsPerSection (storeOf store (now (bytes .entry)) (now (words .entry)))) ⌝ }
-{
-    let stored = store.bytes;
-    let sections = store.sections;
-    if bytes.len() <= (stored as usize) {
-        return false;
-    }
-    if Assembler::MAX_BYTES <= stored {
-        return false;
-    }
-    if Assembler::MAX_SECTIONS < sections {
-        return false;
-    }
-    if sections == 0 {
-        return false;
-    }
-    if words.len() < Assembler::WORDS * (sections as usize) {
-        return false;
-    }
-    ends_in_ops(words, (sections - 1) as usize, stored)
-}
-
-// The words at a section are those of Ops that end at the stored count.
-fn ends_in_ops(words: &[u32], last: usize, stored: u32) -> bool
-    requires { ⌜ wordsPerSection * (last + 1) ≤ length (now words) ⌝ }
-    ensures { λ r. ⌜ (r ≡ true → EndsInOps (wordsAt wordsPerSection (now (words .entry)) last) stored) ⌝ }
-{
-    let at = Assembler::WORDS * last;
-    if words[at] != 1 {
-        return false;
-    }
-    if words[at + 2] != stored {
-        return false;
-    }
-    words[at + 1] <= stored
 }
 
 // Adds a section that stands alone, given as its three words. They come as numbers: a struct would go by way of memory.

@@ -7,9 +7,6 @@ use adding::BytesKind;
 use adding::add_alone;
 use adding::add_bytes;
 use adding::add_op;
-use adding::begin_op;
-use adding::extend_op;
-use adding::extends_ops;
 pub use minimal::push_minimal_u32;
 pub use minimal::push_minimal_u64;
 pub use minimal::push_minimal_u256;
@@ -82,11 +79,7 @@ pub fn push_op_byte(store: Assembler, bytes: &mut [u8], words: &mut [u32], byte:
     ensures bytes { λ _. ⌜ now (bytes .exit) ≡ pushAfter wordsPerSection (pushOpByte byte) (storeOf store (now (bytes .entry)) (now (words .entry))) .bytes ⌝ }
     ensures words { λ _. ⌜ now (words .exit) ≡ pushAfter wordsPerSection (pushOpByte byte) (storeOf store (now (bytes .entry)) (now (words .entry))) .words ⌝ }
 {
-    // `add_op` written out: the compiler then keeps the slow way apart from this one.
-    if extends_ops(store, bytes, words) {
-        return extend_op(store, bytes, words, byte);
-    }
-    begin_op(store, bytes, words, byte)
+    add_op(store, bytes, words, byte)
 }
 
 // Adds SWAP1 to SWAP16. Refusals: 1 bad depth (0 or above 16), 6 damaged, 4 bytes full, 5 sections full.

@@ -11,11 +11,8 @@ use borrow.Author.Needs.{needs}
 use Rattle.store.proofs.push_op_byte.Statement.{statement}
 use Rattle.store.proofs.push_op_byte.Tie as tie
 
-extends-ops-requires : tie.Need-extends-ops-requires
-extends-ops-requires c κs = search needs
-
-extend-op-requires : tie.Need-extend-op-requires
-extend-op-requires c κs = c .before .before .before .extends-ops .ensures (c .before .before .if1 .taken)
+add-op-requires : tie.Need-add-op-requires
+add-op-requires c κs = search needs
 
 same-length : tie.Need-same-length
 same-length c = search needs
@@ -25,35 +22,9 @@ same-length-2 c = search needs
 
 returns : tie.Need-returns
 returns c =
-    let a = c .before .before .before .before .before .before .before .before .before .before .before .before .before .args in
+    let a = c .before .before .before .before .before .before .before .before .before .args in
     let st = storeOf (a .store) (now (a .bytes)) (now (a .words)) in
-    push-adds wordsPerSection (pushOpByte (a .byte)) st refl refl refl (ops (a .byte ∷ [])) _ _ _ refl (c .before .before .before .before .extend-op .ensures)
-
-begin-op-requires : tie.Need-begin-op-requires
-begin-op-requires c κs = search needs
-
-same-length-3 : tie.Need-same-length-3
-same-length-3 c = search needs
-
-same-length-4 : tie.Need-same-length-4
-same-length-4 c = search needs
-
-returns-2 : tie.Need-returns-2
-returns-2 c =
-    let a = c .before .before .before .before .before .before .before .before .before .before .before .before .before .args in
-    let st = storeOf (a .store) (now (a .bytes)) (now (a .words)) in
-    push-adds wordsPerSection (pushOpByte (a .byte)) st refl refl refl (ops (a .byte ∷ [])) _ _ _ refl (c .before .before .before .before .begin-op .ensures)
+    push-adds wordsPerSection (pushOpByte (a .byte)) st refl refl refl (ops (a .byte ∷ [])) _ _ _ refl (c .before .before .before .before .add-op .ensures)
 
 pub push-op-byte-spec : {M : Type 1} → statement M
-push-op-byte-spec =
-    tie.close
-    (tie.spec
-    extends-ops-requires
-    extend-op-requires
-    same-length
-    same-length-2
-    returns
-    begin-op-requires
-    same-length-3
-    same-length-4
-    returns-2)
+push-op-byte-spec = tie.close (tie.spec add-op-requires same-length same-length-2 returns)

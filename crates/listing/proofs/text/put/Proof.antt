@@ -1,9 +1,9 @@
--- The invariant: putting the bytes from i on, from here, is putting the whole string from the start. The measure is what is left.
--- Assumes nothing.
+-- Past the end the string is counted. Else the invariant: putting the bytes from i on, from here, is putting the whole string from the
+-- start. The measure is what is left. Assumes nothing.
 use Prim.Native.Nat.{_-_, _≤_}
 use native.Mathlib.Omega.{arith}
 use lib.ListN.{length, drop}
-use Rattle.listing.proofs.Puts.{Left, left-start}
+use Rattle.listing.proofs.Puts.{Left, left-start, put-past}
 use Rattle.listing.proofs.Turns.{string-room, string-turn, string-done}
 use Rattle.listing.proofs.text.put.Statement.{statement}
 use Rattle.listing.proofs.text.put.Tie as tie
@@ -14,6 +14,12 @@ Inv-loop text₀ at added here₀ i₀ text here i = (i ≤ length added) × Lef
 abbrev μ-loop : tie.MeasureT-loop
 μ-loop text₀ at added here₀ i₀ text here i = length added - i
 
+add-result : tie.Need-add-result Inv-loop μ-loop
+add-result c = omega arith
+
+returns : tie.Need-returns Inv-loop μ-loop
+returns c = put-past _ _ _ (c .if1 .taken)
+
 loop-holds : tie.Need-loop-holds Inv-loop μ-loop
 loop-holds c = (omega arith, left-start _ _ _)
 
@@ -23,7 +29,7 @@ shared-slice-read-put-byte c = omega arith
 put-byte-requires : tie.Need-put-byte-requires Inv-loop μ-loop
 put-byte-requires c κs =
     let turn = c .before .before .before in
-    string-room _ _ (c .before .before .loop-test .taken) (turn .loop .inv .1) (turn .before .before .before .pre)
+    string-room _ _ (c .before .before .loop-test .taken) (turn .loop .inv .1) (turn .before .before .before .before .pre)
 
 add-i : tie.Need-add-i Inv-loop μ-loop
 add-i c = omega arith
@@ -39,8 +45,8 @@ loop-again c =
 same-length : tie.Need-same-length Inv-loop μ-loop
 same-length c = c .before .loop .inv .1 .same
 
-returns : tie.Need-returns Inv-loop μ-loop
-returns c = string-done _ _ (c .loop-test .left) (c .before .loop .inv .1)
+returns-2 : tie.Need-returns-2 Inv-loop μ-loop
+returns-2 c = string-done _ _ (c .loop-test .left) (c .before .loop .inv .1)
 
 pub put-spec : {M : Type 1} → statement M
-put-spec = tie.close (tie.spec Inv-loop μ-loop loop-holds shared-slice-read-put-byte put-byte-requires add-i loop-less loop-again same-length returns)
+put-spec = tie.close (tie.spec Inv-loop μ-loop add-result returns loop-holds shared-slice-read-put-byte put-byte-requires add-i loop-less loop-again same-length returns-2)

@@ -1,11 +1,12 @@
--- The invariant: putting the bytes from i on, from here, is putting them all from the start. The measure is what is left.
--- Assumes nothing.
+-- Past the end the digits are counted. Else the invariant: putting the bytes from i on, from here, is putting them all from the start.
+-- The measure is what is left. Assumes nothing.
 use Prim.Native.Nat.{_-_, _≤_}
 use native.Mathlib.Omega.{arith}
 use lib.Seq.{slice}
+use denote.Ref.{now}
 use Rattle.listing.specs.Listing.{hex}
 use Rattle.listing.proofs.Puts.{Left, left-start}
-use Rattle.listing.proofs.Turns.{hex-room, hex-turn, hex-done}
+use Rattle.listing.proofs.Turns.{hex-fits, hex-past, hex-room, hex-turn, hex-done}
 use Rattle.listing.proofs.text.put_hex.Statement.{statement}
 use Rattle.listing.proofs.text.put_hex.Tie as tie
 
@@ -14,6 +15,24 @@ Inv-loop text₀ at bytes start end here₀ i₀ text here i = (i ≤ end) × Le
 
 abbrev μ-loop : tie.MeasureT-loop
 μ-loop text₀ at bytes start end here₀ i₀ text here i = end - i
+
+sub-result : tie.Need-sub-result Inv-loop μ-loop
+sub-result c = omega arith
+
+mul-result : tie.Need-mul-result Inv-loop μ-loop
+mul-result c =
+    let a = c .before .before .before .args in
+    let pre = c .before .before .before .pre in
+    omega (arith, hex-fits (a .at) (now (a .bytes)) (a .start) (a .end) (pre .1) (pre .2))
+
+add-result : tie.Need-add-result Inv-loop μ-loop
+add-result c =
+    let a = c .before .before .before .args in
+    let pre = c .before .before .before .pre in
+    omega (arith, hex-fits (a .at) (now (a .bytes)) (a .start) (a .end) (pre .1) (pre .2))
+
+returns : tie.Need-returns Inv-loop μ-loop
+returns c = hex-past _ _ _ (c .before .before .before .pre .1) (c .if1 .taken)
 
 loop-holds : tie.Need-loop-holds Inv-loop μ-loop
 loop-holds c = (omega arith, left-start _ _ _)
@@ -24,7 +43,7 @@ shared-slice-read-put-hex-byte c = omega arith
 put-hex-byte-requires : tie.Need-put-hex-byte-requires Inv-loop μ-loop
 put-hex-byte-requires c κs =
     let turn = c .before .before .before in
-    let pre = turn .before .before .before .pre in
+    let pre = turn .before .before .before .before .pre in
     hex-room _ _ _ (c .before .before .loop-test .taken) (pre .1) (turn .loop .inv .1) (pre .2)
 
 add-i : tie.Need-add-i Inv-loop μ-loop
@@ -36,14 +55,14 @@ loop-less c = omega arith
 loop-again : tie.Need-loop-again Inv-loop μ-loop
 loop-again c =
     let turn = c .before .before .before .before .before .before in
-    let pre = turn .before .before .before .pre in
+    let pre = turn .before .before .before .before .pre in
     (omega arith, hex-turn _ _ _ (c .before .before .before .before .before .loop-test .taken) (pre .1) (turn .loop .inv .1) (c .before .before .put-hex-byte .ensures))
 
 same-length : tie.Need-same-length Inv-loop μ-loop
 same-length c = c .before .loop .inv .1 .same
 
-returns : tie.Need-returns Inv-loop μ-loop
-returns c = hex-done _ _ _ (c .before .loop .inv .0) (omega arith) (c .before .loop .inv .1)
+returns-2 : tie.Need-returns-2 Inv-loop μ-loop
+returns-2 c = hex-done _ _ _ (c .before .loop .inv .0) (omega arith) (c .before .loop .inv .1)
 
 pub put-hex-spec : {M : Type 1} → statement M
 put-hex-spec =
@@ -51,6 +70,10 @@ put-hex-spec =
     (tie.spec
     Inv-loop
     μ-loop
+    sub-result
+    mul-result
+    add-result
+    returns
     loop-holds
     shared-slice-read-put-hex-byte
     put-hex-byte-requires
@@ -58,4 +81,4 @@ put-hex-spec =
     loop-less
     loop-again
     same-length
-    returns)
+    returns-2)
