@@ -44,15 +44,19 @@ if [ $# -ge 1 ]; then
         --extern alloy_primitives="$out/liballoy_primitives.rlib" --out-dir "$out"
     linked="--cfg original --extern assembler=$out/libassembler.rlib --extern plank_core=$out/libplank_core.rlib --extern alloy_primitives=$out/liballoy_primitives.rlib"
 fi
-# Four links, 16 bytes apart: the table has the least of them, for both sides.
+# Four links, 16 bytes apart, each run three times: the table has the least of them, for both sides.
 rm -f "$out/rows"
 for bytes in 16 32 48 64; do
     echo "$bytes" >"$out/shift"
     SHIFT=$out rustc $flags --check-cfg 'cfg(original)' --check-cfg 'cfg(shift)' --cfg shift $linked \
-        -l static=sadrokki "$here/bench.rs" -o "$out/bench"
-    "$out/bench" ${2:+"$2"} >>"$out/rows"
+        -l static=sadrokki "$here/bench.rs" -o "$out/bench$bytes"
 done
-"$out/bench" --table "$out/rows"
+for turn in 1 2 3; do
+    for bytes in 16 32 48 64; do
+        "$out/bench$bytes" ${2:+"$2"} >>"$out/rows"
+    done
+done
+"$out/bench16" --table "$out/rows"
 
 if [ -x "$root/tools/c/run.sh" ]; then
     "$root/tools/c/run.sh" "$out/libsadrokki.a"

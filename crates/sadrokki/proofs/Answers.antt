@@ -15,8 +15,8 @@ use Rattle.units.specs.Reference.{tooNarrow, size, leastSize, sizeFor}
 use Rattle.units.specs.Replies.{Reply}
 use Rattle.records.specs.declared.Assembler.{Assembler}
 use Rattle.records.specs.Record.{setSizeOf}
-use Rattle.records.specs.Store.{Store, storeOf, wordsPerSection}
-use Rattle.store.specs.Calls.{Push, pushReference, pushReply, pushAfter, over}
+use Rattle.records.specs.Store.{storeOf, wordsPerSection}
+use Rattle.store.specs.Calls.{Push, pushReply, pushAfter, over}
 use Rattle.assembler.specs.Assemble as assembling
 use Rattle.assembler.specs.Assemble.{Outcome, assembly}
 use Rattle.assembler.specs.Demand3.{Demand3}
@@ -95,17 +95,6 @@ module _ (m : MarkReference) (state : ℕ) (bytes words : List ℕ) (n : ℕ) (f
     ap (λ (x : Form). referenceNumber wordsPerSection m x (storeIn state bytes words)) (sym e ∙ read),
     ap (λ (x : Form). referenceAfter wordsPerSection m x (storeIn state bytes words)) (sym e ∙ read),
   )
-
-  pub formed-names : (s : SetSize) (p : Bool) → f ≡ Names s p → (counts : Assembler) → counts ≡ countsIn state → (reply : Reply) (words′ : List ℕ)
-      → (reply ≡ pushReply wordsPerSection (pushReference (formed m s p)) (storeOf counts bytes words))
-      × (words′ ≡ pushAfter wordsPerSection (pushReference (formed m s p)) (storeOf counts bytes words) .words)
-      → {r : ℕ} → r ≡ builtNumber reply
-      → (r ≡ referenceNumber wordsPerSection m (formOf n) (storeIn state bytes words)) × (words′ ≡ referenceAfter wordsPerSection m (formOf n) (storeIn state bytes words))
-  formed-names s p e counts is reply words′ made q =
-      let all = built-words (pushReference (formed m s p)) bytes words state counts is reply words′ made q in (
-        all .0 ∙ ap (λ (x : Form). referenceNumber wordsPerSection m x (storeIn state bytes words)) (sym e ∙ read),
-        all .1 ∙ ap (λ (x : Form). referenceAfter wordsPerSection m x (storeIn state bytes words)) (sym e ∙ read),
-      )
 
 -- ---- assembly
 

@@ -22,11 +22,11 @@ use Rattle.records.specs.declared.damage.Soundness.the-variants.{Sound}
 use Rattle.records.proofs.Reading.{mark-read, span-read, direct-pushed, delta-read, section-mark, section-ops, section-data, section-direct, section-pushed-delta, section-raw-delta}
 use Rattle.store.specs.Calls.{Push, pushMark, pushReference, pushOpByte, pushData, hasBadDepth, hasBadWord, hasLargeMark, added, wordsOf, recordWords, over, minimalPush, bytesPass, joins, noSectionLeft, addReply, addAfter, pushReply, pushAfter}
 use Rattle.store.specs.Adding.{Alone, aloneMark, aloneReference, aloneSection, lastKindIs, storedSection}
-use Rattle.store.proofs.Adds.{Adds, Pushes, add-joined, add-appended, alone-appended, push-adds, push-reply, push-after}
+use Rattle.store.proofs.Adds.{Adds, add-joined, add-appended, alone-appended, push-adds, push-reply, push-after}
 use Rattle.store.proofs.Parts.{left-slice}
 use Rattle.emission.proofs.Rows.{over-one, over-next, over-nothing}
 use Rattle.sadrokki.specs.Numbers.{storeIn, builtNumber}
-use Rattle.sadrokki.specs.Short.{Takes, EndsAt, Room, Extends, Begins, endMoved, aloneCall}
+use Rattle.sadrokki.specs.Short.{Takes, Extends, Begins, endMoved, aloneCall}
 
 -- ---- a last section that the tests took
 

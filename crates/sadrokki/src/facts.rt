@@ -1,12 +1,10 @@
 // The small calls: landing, the opcodes, and the bytes that hold a value.
 use crate::number::NAMES_NOTHING;
+use crate::short::write_bytes;
 use evm::landing::Landing;
 use evm::op::PushSize;
 ghost use mathlib.Core.Path.{_≡_};
 ghost use Rattle.units.specs.Numbers.{heldBytes};
-ghost use Prim.Native.Nat.{_≤_};
-ghost use lib.ListN.{length};
-ghost use Rattle.store.specs.Calls.{over};
 ghost use Rattle.evm.specs.Landing.{landingAt};
 ghost use Rattle.evm.specs.Opcodes.{opPushSize, immediateBytes};
 ghost use Rattle.opcodes.specs.Names.{opName};
@@ -35,7 +33,7 @@ pub extern "C" fn sadrokki_op_name(byte: u8, name: &mut [u8]) -> u64
     if name.len() < len {
         return NAMES_NOTHING;
     }
-    copy(name, &letters[..len]);
+    write_bytes(name, 0, &letters[..len]);
     len as u64
 }
 
@@ -56,16 +54,4 @@ pub extern "C" fn sadrokki_bytes_to_hold(value: u32) -> u32
     ensures { λ r. ⌜ r ≡ heldBytes value ⌝ }
 {
     units::bytes_to_hold(value).bytes()
-}
-
-// Copies bytes to the start of a slice.
-fn copy(to: &mut [u8], from: &[u8])
-    requires { ⌜ length (now from) ≤ length (now to) ⌝ }
-    ensures { λ _. ⌜ now (to .exit) ≡ over (now (to .entry)) 0 (now (from .entry)) ⌝ }
-{
-    let mut i = 0;
-    while i < from.len() {
-        to[i] = from[i];
-        i += 1;
-    }
 }

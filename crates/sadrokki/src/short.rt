@@ -187,7 +187,8 @@ pub(crate) fn extend_push(state: u64, bytes: &mut [u8], words: &mut [u32], value
     move_end(state, words, 1 + (count as u32))
 }
 
-fn write_bytes(bytes: &mut [u8], at: usize, added: &[u8])
+// Copies bytes over others from an index on.
+pub(crate) fn write_bytes(bytes: &mut [u8], at: usize, added: &[u8])
     requires { ⌜ at + length (now added) ≤ length (now bytes) ⌝ }
     ensures { λ _. ⌜ now (bytes .exit) ≡ over (now (bytes .entry)) at (now (added .entry)) ⌝ }
 {

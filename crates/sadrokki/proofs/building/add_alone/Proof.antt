@@ -1,40 +1,30 @@
+-- What `push_mark` or `push_reference` answers, as a number, of the section that has the words.
+-- Assumes nothing.
 use Rattle.sadrokki.proofs.References.{alone-mark, alone-reference}
 use Rattle.sadrokki.proofs.Answers.{built-packs, built-words}
 use Rattle.sadrokki.specs.Numbers.{storeIn, builtNumber}
 use Rattle.records.specs.Store.{wordsPerSection}
 use Rattle.store.specs.Calls.{Push, pushMark, pushReference, pushReply, pushAfter}
-use mathlib.Core.Path.{_≡_, sym, ap, _∙_}
+use mathlib.Core.Path.{ap, _∙_}
 use denote.Ref.{now}
 use borrow.Author.Needs.{needs}
 use Rattle.sadrokki.proofs.building.add_alone.Statement.{statement}
 use Rattle.sadrokki.proofs.building.add_alone.Tie as tie
-use Rattle.sadrokki.proofs.building.add_alone.Reads as reads
-use Rattle.sadrokki.proofs.building.add_alone.Lts as lts
-use Rattle.sadrokki.proofs.building.reference_of.Reads as reference-of-reads
-use Rattle.sadrokki.proofs.number.built_number.Reads as built-number-reads
-use Rattle.sadrokki.proofs.number.counts_in.Reads as counts-in-reads
-use Rattle.store.proofs.push_mark.Reads as push-mark-reads
-use Rattle.store.proofs.push_reference.Reads as push-reference-reads
 
--- src/building.rt:344:46
 counts-in-requires : tie.Need-counts-in-requires
 counts-in-requires c κs = search needs
 
--- src/building.rt:344:29
 push-mark-requires : tie.Need-push-mark-requires
 push-mark-requires c κs = search needs
 
--- src/building.rt:344:9
 built-number-requires : tie.Need-built-number-requires
 built-number-requires c κs =
     let a = c .before .before .before .before .before .before .before .before .args in
     built-packs (pushMark (a .first)) (now (a .bytes)) (now (a .words)) _ _ (c .before .before .push-mark .ensures .0)
 
--- src/building.rt:344:9
 same-length : tie.Need-same-length
 same-length c = search needs
 
--- src/building.rt:344:9
 returns : tie.Need-returns
 returns c =
     let a = c .before .before .before .before .before .before .before .before .before .args in
@@ -44,29 +34,23 @@ returns c =
       λ al e. all .1 ∙ ap (λ (p : Push). pushAfter wordsPerSection p st .words) (alone-mark _ _ _ al e (c .before .before .before .before .before .before .if1 .taken)),
     )
 
--- src/building.rt:346:9
 reference-of-requires : tie.Need-reference-of-requires
 reference-of-requires c κs = search needs
 
--- src/building.rt:347:40
 counts-in-requires-2 : tie.Need-counts-in-requires-2
 counts-in-requires-2 c κs = search needs
 
--- src/building.rt:347:18
 push-reference-requires : tie.Need-push-reference-requires
 push-reference-requires c κs = search needs
 
--- src/building.rt:347:5
 built-number-requires-2 : tie.Need-built-number-requires-2
 built-number-requires-2 c κs =
     let a = c .before .before .before .before .before .before .before .before .before .args in
     built-packs _ (now (a .bytes)) (now (a .words)) _ _ (c .before .before .push-reference .ensures .0)
 
--- src/building.rt:339:1
 same-length-2 : tie.Need-same-length-2
 same-length-2 c = search needs
 
--- src/building.rt:339:1
 returns-2 : tie.Need-returns-2
 returns-2 c =
     let a = c .before .before .before .before .before .before .before .before .before .before .args in

@@ -1,3 +1,5 @@
+-- An op byte that begins a section is written at once; else what `push_op_byte` answers, as a number.
+-- Assumes nothing.
 use Rattle.sadrokki.proofs.Ways.{begins-op}
 use Prim.Native.Nat.{ℕ, _+_}
 use mathlib.Core.Path.{ap, _∙_}
@@ -8,13 +10,6 @@ use native.Mathlib.Omega.{arith}
 use borrow.Author.Needs.{needs}
 use Rattle.sadrokki.proofs.building.begin_op.Statement.{statement}
 use Rattle.sadrokki.proofs.building.begin_op.Tie as tie
-use Rattle.sadrokki.proofs.building.begin_op.Reads as reads
-use Rattle.sadrokki.proofs.building.begin_op.Lts as lts
-use Rattle.sadrokki.proofs.building.begins_ops.Reads as begins-ops-reads
-use Rattle.sadrokki.proofs.number.built_number.Reads as built-number-reads
-use Rattle.sadrokki.proofs.number.counts_in.Reads as counts-in-reads
-use Rattle.sadrokki.proofs.short.put_section.Reads as put-section-reads
-use Rattle.store.proofs.push_op_byte.Reads as push-op-byte-reads
 
 begins-ops-requires : tie.Need-begins-ops-requires
 begins-ops-requires c κs = search needs

@@ -1,62 +1,50 @@
+-- Each test on the way is a field.
+-- Assumes nothing.
 use Rattle.store.proofs.Parts.{kind-last}
 use borrow.Author.Tests.{not-true, not-false}
 use Prim.Native.Nat.{_/_, _^_}
-use mathlib.Core.Path.{_≡_, sym, ap, _∙_}
+use mathlib.Core.Path.{_≡_, sym, _∙_}
 use denote.Ref.{now}
 use native.Mathlib.Omega.{arith}
 use mathlib.Core.Bool.{false≢true}
 use borrow.Author.Needs.{needs}
 use Rattle.sadrokki.proofs.building.begins_ops.Statement.{statement}
 use Rattle.sadrokki.proofs.building.begins_ops.Tie as tie
-use Rattle.sadrokki.proofs.building.begins_ops.Reads as reads
-use Rattle.sadrokki.proofs.building.begins_ops.Lts as lts
-use Rattle.sadrokki.proofs.short.takes_section.Reads as takes-section-reads
 
--- src/building.rt:324:18
 cast-stored : tie.Need-cast-stored
 cast-stored c = search needs
 
--- src/building.rt:325:24
 cast-if1 : tie.Need-cast-if1
 cast-if1 c = search needs
 
--- src/building.rt:326:9
 returns : tie.Need-returns
 returns c = λ h. absurd (false≢true h)
 
--- src/building.rt:329:9
 returns-2 : tie.Need-returns-2
 returns-2 c = λ h. absurd (false≢true h)
 
--- src/building.rt:331:9
 takes-section-requires : tie.Need-takes-section-requires
 takes-section-requires c κs = search needs
 
--- src/building.rt:332:9
 returns-3 : tie.Need-returns-3
 returns-3 c = λ h. absurd (false≢true h)
 
--- src/building.rt:334:16
 sub-last : tie.Need-sub-last
 sub-last c =
     let took = c .before .takes-section .ensures (not-false _ (c .if3 .left)) in
     omega (arith, took .some)
 
--- src/building.rt:335:11
 mul-result : tie.Need-mul-result
 mul-result c = search needs
 
--- src/building.rt:335:5
 mul-result-2 : tie.Need-mul-result-2
 mul-result-2 c = search needs
 
--- src/building.rt:335:5
 shared-slice-read-result : tie.Need-shared-slice-read-result
 shared-slice-read-result c =
     let took = c .before .before .takes-section .ensures (not-false _ (c .before .if3 .left)) in
     omega (arith, took .some, took .free)
 
--- src/building.rt:321:1
 returns-4 : tie.Need-returns-4
 returns-4 c =
     λ h.

@@ -1,29 +1,23 @@
+-- Each test on the way is a part.
+-- Assumes nothing.
 use borrow.Author.Tests.{eqb-false, not-true, not-false}
 use mathlib.Core.Bool.{false≢true}
 use borrow.Author.Needs.{needs}
 use Rattle.sadrokki.proofs.building.exchanges_three.Statement.{statement}
 use Rattle.sadrokki.proofs.building.exchanges_three.Tie as tie
-use Rattle.sadrokki.proofs.building.exchanges_three.Reads as reads
-use Rattle.sadrokki.proofs.building.exchanges_three.Lts as lts
-use Rattle.sadrokki.proofs.building.is_depth.Reads as is-depth-reads
 
--- src/building.rt:276:9
 is-depth-requires : tie.Need-is-depth-requires
 is-depth-requires c κs = search needs
 
--- src/building.rt:277:9
 returns : tie.Need-returns
 returns c = λ h. absurd (false≢true h)
 
--- src/building.rt:279:9
 is-depth-requires-2 : tie.Need-is-depth-requires-2
 is-depth-requires-2 c κs = search needs
 
--- src/building.rt:280:9
 returns-2 : tie.Need-returns-2
 returns-2 c = λ h. absurd (false≢true h)
 
--- src/building.rt:273:1
 returns-3 : tie.Need-returns-3
 returns-3 c =
     λ h.

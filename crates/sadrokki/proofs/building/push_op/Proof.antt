@@ -1,3 +1,5 @@
+-- The op byte extends the last section at once, or `begin_op` adds it.
+-- Assumes nothing.
 use Rattle.sadrokki.proofs.Ways.{extends-ops}
 use Rattle.store.specs.Calls.{pushOpByte}
 use denote.Ref.{now}
@@ -6,31 +8,21 @@ use mathlib.Core.Path.{refl, _∙_}
 use borrow.Author.Needs.{needs}
 use Rattle.sadrokki.proofs.building.push_op.Statement.{statement}
 use Rattle.sadrokki.proofs.building.push_op.Tie as tie
-use Rattle.sadrokki.proofs.building.push_op.Reads as reads
-use Rattle.sadrokki.proofs.building.push_op.Lts as lts
-use Rattle.sadrokki.proofs.building.begin_op.Reads as begin-op-reads
-use Rattle.sadrokki.proofs.short.extend_one.Reads as extend-one-reads
-use Rattle.sadrokki.proofs.short.extends.Reads as extends-reads
 
--- src/building.rt:300:8
 extends-requires : tie.Need-extends-requires
 extends-requires c κs = search needs
 
--- src/building.rt:301:9
 extend-one-requires : tie.Need-extend-one-requires
 extend-one-requires c κs =
     let took = c .before .before .before .extends .ensures (c .before .before .if1 .taken) in
     took .has
 
--- src/building.rt:301:9
 same-length : tie.Need-same-length
 same-length c = search needs
 
--- src/building.rt:301:9
 same-length-2 : tie.Need-same-length-2
 same-length-2 c = search needs
 
--- src/building.rt:301:9
 returns : tie.Need-returns
 returns c =
     let a = c .before .before .before .before .before .before .before .before .before .before .before .before .before .args in
@@ -39,19 +31,15 @@ returns c =
     let all = extends-ops (a .state) (now (a .bytes)) (now (a .words)) (pushOpByte (a .op)) (a .op ∷ []) refl refl refl refl took in
     (one .0 ∙ all .0, (one .1 .0 ∙ all .1 .0, one .1 .1 ∙ all .1 .1))
 
--- src/building.rt:303:5
 begin-op-requires : tie.Need-begin-op-requires
 begin-op-requires c κs = search needs
 
--- src/building.rt:295:1
 same-length-3 : tie.Need-same-length-3
 same-length-3 c = search needs
 
--- src/building.rt:295:1
 same-length-4 : tie.Need-same-length-4
 same-length-4 c = search needs
 
--- src/building.rt:295:1
 returns-2 : tie.Need-returns-2
 returns-2 c = search needs
 

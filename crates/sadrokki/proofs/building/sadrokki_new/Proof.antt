@@ -1,7 +1,7 @@
 -- The empty counts are 0.
 -- Assumes nothing.
 use borrow.Author.Needs.{needs}
-use mathlib.Core.Path.{_≡_, ap, sym, _∙_, subst}
+use mathlib.Core.Path.{ap, sym, _∙_, subst}
 use native.Mathlib.Omega.{arith}
 use Rattle.records.specs.declared.Assembler.{Assembler}
 use Rattle.sadrokki.specs.Numbers.{packed, Packs}

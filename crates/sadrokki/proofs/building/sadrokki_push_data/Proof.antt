@@ -3,18 +3,11 @@
 use Rattle.sadrokki.proofs.Ways.{extends-data}
 use Rattle.store.specs.Calls.{pushData}
 use Rattle.sadrokki.proofs.Answers.{built-packs, built-both}
-use mathlib.Core.Path.{_≡_, refl, sym, ap, _∙_}
+use mathlib.Core.Path.{_∙_}
 use denote.Ref.{now}
 use borrow.Author.Needs.{needs}
 use Rattle.sadrokki.proofs.building.sadrokki_push_data.Statement.{statement}
 use Rattle.sadrokki.proofs.building.sadrokki_push_data.Tie as tie
-use Rattle.sadrokki.proofs.building.sadrokki_push_data.Reads as reads
-use Rattle.sadrokki.proofs.building.sadrokki_push_data.Lts as lts
-use Rattle.sadrokki.proofs.number.built_number.Reads as built-number-reads
-use Rattle.sadrokki.proofs.number.counts_in.Reads as counts-in-reads
-use Rattle.sadrokki.proofs.short.extend.Reads as extend-reads
-use Rattle.sadrokki.proofs.short.extends.Reads as extends-reads
-use Rattle.store.proofs.push_data.Reads as push-data-reads
 
 extends-requires : tie.Need-extends-requires
 extends-requires c κs = search needs

@@ -6,21 +6,15 @@ use Rattle.sadrokki.proofs.Answers.{formed-nothing}
 use Rattle.sadrokki.proofs.References.{form-nothing, named, direct-formed}
 use Rattle.sadrokki.proofs.Ways.{takes-alone}
 use Rattle.records.specs.Record.{maxMark, setSizeOf}
-use Rattle.store.specs.Adding.{aloneMark, aloneReference, storedSection}
+use Rattle.store.specs.Adding.{aloneReference, storedSection}
 use borrow.Author.Tests.{le-ltb, not-true, not-false}
 use lib.Dec.{leb}
-use Prim.Native.Nat.{ℕ, _%_}
-use mathlib.Core.Path.{_≡_, refl, sym, ap, _∙_}
+use Prim.Native.Nat.{_%_}
+use mathlib.Core.Path.{refl, sym, _∙_}
 use denote.Ref.{now}
 use borrow.Author.Needs.{needs}
 use Rattle.sadrokki.proofs.building.sadrokki_push_direct.Statement.{statement}
 use Rattle.sadrokki.proofs.building.sadrokki_push_direct.Tie as tie
-use Rattle.sadrokki.proofs.building.sadrokki_push_direct.Reads as reads
-use Rattle.sadrokki.proofs.building.sadrokki_push_direct.Lts as lts
-use Rattle.sadrokki.proofs.building.add_alone.Reads as add-alone-reads
-use Rattle.sadrokki.proofs.form.is_form.Reads as is-form-reads
-use Rattle.sadrokki.proofs.short.put_section.Reads as put-section-reads
-use Rattle.sadrokki.proofs.short.takes_section.Reads as takes-section-reads
 
 is-form-requires : tie.Need-is-form-requires
 is-form-requires c κs = search needs

@@ -4,17 +4,11 @@ use Rattle.sadrokki.proofs.Ways.{one-op}
 use Rattle.store.specs.Calls.{pushDup}
 use borrow.Author.Tests.{le-ltb}
 use Rattle.sadrokki.proofs.Answers.{built-packs, built-both}
-use mathlib.Core.Path.{_≡_, refl, sym, ap, _∙_}
+use mathlib.Core.Path.{refl}
 use denote.Ref.{now}
 use borrow.Author.Needs.{needs}
 use Rattle.sadrokki.proofs.building.sadrokki_push_dup.Statement.{statement}
 use Rattle.sadrokki.proofs.building.sadrokki_push_dup.Tie as tie
-use Rattle.sadrokki.proofs.building.sadrokki_push_dup.Reads as reads
-use Rattle.sadrokki.proofs.building.sadrokki_push_dup.Lts as lts
-use Rattle.sadrokki.proofs.building.push_op.Reads as push-op-reads
-use Rattle.sadrokki.proofs.number.built_number.Reads as built-number-reads
-use Rattle.sadrokki.proofs.number.counts_in.Reads as counts-in-reads
-use Rattle.store.proofs.push_dup.Reads as push-dup-reads
 
 add-push-op : tie.Need-add-push-op
 add-push-op c = search needs

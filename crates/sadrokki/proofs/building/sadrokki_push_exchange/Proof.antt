@@ -6,19 +6,11 @@ use Rattle.store.proofs.Parts.{exchange-good, exchange-neither}
 use Rattle.store.specs.Calls.{pushExchange}
 use Rattle.sadrokki.proofs.Answers.{built-packs, built-both}
 use native.Mathlib.Omega.{arith}
-use mathlib.Core.Path.{_≡_, refl, sym, ap, _∙_}
+use mathlib.Core.Path.{_≡_, refl, _∙_}
 use denote.Ref.{now}
 use borrow.Author.Needs.{needs}
 use Rattle.sadrokki.proofs.building.sadrokki_push_exchange.Statement.{statement}
 use Rattle.sadrokki.proofs.building.sadrokki_push_exchange.Tie as tie
-use Rattle.sadrokki.proofs.building.sadrokki_push_exchange.Reads as reads
-use Rattle.sadrokki.proofs.building.sadrokki_push_exchange.Lts as lts
-use Rattle.sadrokki.proofs.building.exchanges_three.Reads as exchanges-three-reads
-use Rattle.sadrokki.proofs.number.built_number.Reads as built-number-reads
-use Rattle.sadrokki.proofs.number.counts_in.Reads as counts-in-reads
-use Rattle.sadrokki.proofs.short.extend.Reads as extend-reads
-use Rattle.sadrokki.proofs.short.extends.Reads as extends-reads
-use Rattle.store.proofs.push_exchange.Reads as push-exchange-reads
 
 exchanges-three-requires : tie.Need-exchanges-three-requires
 exchanges-three-requires c κs = search needs

@@ -2,18 +2,13 @@
 -- Assumes nothing.
 use Rattle.sadrokki.proofs.Ways.{takes-alone}
 use Rattle.records.specs.Record.{maxMark}
-use Rattle.store.specs.Adding.{aloneMark, aloneReference, storedSection}
+use Rattle.store.specs.Adding.{aloneMark, storedSection}
 use borrow.Author.Tests.{le-ltb}
-use mathlib.Core.Path.{_≡_, refl, sym, ap, _∙_}
+use mathlib.Core.Path.{refl, _∙_}
 use denote.Ref.{now}
 use borrow.Author.Needs.{needs}
 use Rattle.sadrokki.proofs.building.sadrokki_push_mark.Statement.{statement}
 use Rattle.sadrokki.proofs.building.sadrokki_push_mark.Tie as tie
-use Rattle.sadrokki.proofs.building.sadrokki_push_mark.Reads as reads
-use Rattle.sadrokki.proofs.building.sadrokki_push_mark.Lts as lts
-use Rattle.sadrokki.proofs.building.add_alone.Reads as add-alone-reads
-use Rattle.sadrokki.proofs.short.put_section.Reads as put-section-reads
-use Rattle.sadrokki.proofs.short.takes_section.Reads as takes-section-reads
 
 takes-section-requires : tie.Need-takes-section-requires
 takes-section-requires c κs = search needs

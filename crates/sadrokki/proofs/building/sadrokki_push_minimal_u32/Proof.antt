@@ -6,18 +6,11 @@ use Rattle.store.specs.Calls.{pushMinimalU32, minimalPush}
 use lib.ListN.{length}
 use Rattle.sadrokki.proofs.Answers.{built-packs, built-both}
 use native.Mathlib.Omega.{arith}
-use mathlib.Core.Path.{_≡_, refl, sym, ap, _∙_}
+use mathlib.Core.Path.{refl, _∙_}
 use denote.Ref.{now}
 use borrow.Author.Needs.{needs}
 use Rattle.sadrokki.proofs.building.sadrokki_push_minimal_u32.Statement.{statement}
 use Rattle.sadrokki.proofs.building.sadrokki_push_minimal_u32.Tie as tie
-use Rattle.sadrokki.proofs.building.sadrokki_push_minimal_u32.Reads as reads
-use Rattle.sadrokki.proofs.building.sadrokki_push_minimal_u32.Lts as lts
-use Rattle.sadrokki.proofs.number.built_number.Reads as built-number-reads
-use Rattle.sadrokki.proofs.number.counts_in.Reads as counts-in-reads
-use Rattle.sadrokki.proofs.short.extend_push.Reads as extend-push-reads
-use Rattle.sadrokki.proofs.short.extends.Reads as extends-reads
-use Rattle.store.proofs.push_minimal_u32.Reads as push-minimal-u32-reads
 
 extends-requires : tie.Need-extends-requires
 extends-requires c κs = search needs

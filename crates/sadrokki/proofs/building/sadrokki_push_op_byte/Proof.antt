@@ -3,16 +3,11 @@
 use Rattle.sadrokki.proofs.Ways.{extends-ops}
 use Rattle.store.specs.Calls.{pushOpByte}
 use mathlib.Core.List.{[], _∷_}
-use mathlib.Core.Path.{_≡_, refl, sym, ap, _∙_}
+use mathlib.Core.Path.{refl, _∙_}
 use denote.Ref.{now}
 use borrow.Author.Needs.{needs}
 use Rattle.sadrokki.proofs.building.sadrokki_push_op_byte.Statement.{statement}
 use Rattle.sadrokki.proofs.building.sadrokki_push_op_byte.Tie as tie
-use Rattle.sadrokki.proofs.building.sadrokki_push_op_byte.Reads as reads
-use Rattle.sadrokki.proofs.building.sadrokki_push_op_byte.Lts as lts
-use Rattle.sadrokki.proofs.building.begin_op.Reads as begin-op-reads
-use Rattle.sadrokki.proofs.short.extend_one.Reads as extend-one-reads
-use Rattle.sadrokki.proofs.short.extends.Reads as extends-reads
 
 extends-requires : tie.Need-extends-requires
 extends-requires c κs = search needs

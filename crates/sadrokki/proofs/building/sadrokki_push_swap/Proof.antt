@@ -8,18 +8,11 @@ use Prim.Native.Nat.{ℕ, _+_, _-_}
 use mathlib.Core.List.{[], _∷_}
 use Rattle.sadrokki.proofs.Answers.{built-packs, built-both}
 use native.Mathlib.Omega.{arith}
-use mathlib.Core.Path.{_≡_, refl, sym, ap, _∙_}
+use mathlib.Core.Path.{_≡_, refl, ap}
 use denote.Ref.{now}
 use borrow.Author.Needs.{needs}
 use Rattle.sadrokki.proofs.building.sadrokki_push_swap.Statement.{statement}
 use Rattle.sadrokki.proofs.building.sadrokki_push_swap.Tie as tie
-use Rattle.sadrokki.proofs.building.sadrokki_push_swap.Reads as reads
-use Rattle.sadrokki.proofs.building.sadrokki_push_swap.Lts as lts
-use Rattle.sadrokki.proofs.building.is_depth.Reads as is-depth-reads
-use Rattle.sadrokki.proofs.building.push_op.Reads as push-op-reads
-use Rattle.sadrokki.proofs.number.built_number.Reads as built-number-reads
-use Rattle.sadrokki.proofs.number.counts_in.Reads as counts-in-reads
-use Rattle.store.proofs.push_swap.Reads as push-swap-reads
 
 is-depth-requires : tie.Need-is-depth-requires
 is-depth-requires c κs = search needs

@@ -1,7 +1,7 @@
 -- 1 for yes, 0 for no.
 -- Assumes nothing.
 use borrow.Author.Needs.{needs}
-use mathlib.Core.Path.{_≡_, ap, sym, _∙_, subst}
+use mathlib.Core.Path.{ap, sym, _∙_}
 use Rattle.sadrokki.specs.Facts.{landingNumber}
 use Rattle.sadrokki.proofs.facts.sadrokki_lands.Statement.{statement}
 use Rattle.sadrokki.proofs.facts.sadrokki_lands.Tie as tie

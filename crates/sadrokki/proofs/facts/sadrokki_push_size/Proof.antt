@@ -1,7 +1,7 @@
 -- The size of a push, or 0.
 -- Assumes nothing.
 use borrow.Author.Needs.{needs}
-use mathlib.Core.Path.{_≡_, ap, sym, _∙_, subst}
+use mathlib.Core.Path.{ap, sym, _∙_}
 use Rattle.evm.specs.Opcodes.{immediateBytes}
 use Rattle.sadrokki.proofs.facts.sadrokki_push_size.Statement.{statement}
 use Rattle.sadrokki.proofs.facts.sadrokki_push_size.Tie as tie

@@ -2,7 +2,7 @@
 -- Assumes nothing.
 use borrow.Author.Needs.{needs}
 use native.Mathlib.Nat.{zero-add}
-use mathlib.Core.Path.{_≡_, ap, sym, _∙_, subst}
+use mathlib.Core.Path.{ap, sym, _∙_}
 use Rattle.sadrokki.specs.declared.form.Form.{Form}
 use Rattle.sadrokki.specs.Forms.{sizeNumber, sizeForNumber}
 use Rattle.sadrokki.proofs.form.sadrokki_size_for.Statement.{statement}

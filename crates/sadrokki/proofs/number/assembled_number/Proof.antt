@@ -2,7 +2,7 @@
 -- Assumes nothing.
 use borrow.Author.Needs.{needs}
 use native.Mathlib.Omega.{arith}
-use mathlib.Core.Path.{_≡_, ap, sym, _∙_, subst}
+use mathlib.Core.Path.{ap, sym, _∙_, subst}
 use Rattle.assembler.specs.Assemble.{assembledReply}
 use Rattle.sadrokki.specs.Numbers.{AssembledPacks, assembledNumber}
 use Rattle.sadrokki.proofs.number.assembled_number.Statement.{statement}

@@ -1,7 +1,7 @@
 -- Each answer by its own numbers, which pack.
 -- Assumes nothing.
 use borrow.Author.Needs.{needs}
-use mathlib.Core.Path.{_≡_, ap, sym, _∙_, subst}
+use mathlib.Core.Path.{ap, sym, _∙_, subst}
 use Rattle.listing.specs.Answer.{listedReply}
 use Rattle.sadrokki.specs.Numbers.{ListedPacks, listedNumber}
 use Rattle.sadrokki.proofs.number.listed_number.Statement.{statement}

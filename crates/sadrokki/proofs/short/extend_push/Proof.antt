@@ -1,71 +1,56 @@
+-- The opcode, then the bytes of the number, and the end moved.
+-- Assumes nothing.
 use Rattle.sadrokki.proofs.Ways.{length-push, push-written}
 use Rattle.sadrokki.specs.Short.{endMoved}
 use Rattle.store.specs.Calls.{minimalPush}
 use Rattle.records.specs.Store.{wordsPerSection}
 use lib.ListN.{length, length-set}
 use Prim.Native.Nat.{ℕ, _+_, _%_, _^_, _<_}
-use mathlib.Core.Path.{_≡_, sym, ap, _∙_}
+use mathlib.Core.Path.{_≡_, ap, _∙_}
 use denote.Ref.{now}
 use native.Mathlib.Omega.{arith}
 use borrow.Author.Needs.{needs}
 use Rattle.sadrokki.proofs.short.extend_push.Statement.{statement}
 use Rattle.sadrokki.proofs.short.extend_push.Tie as tie
-use Rattle.sadrokki.proofs.short.extend_push.Reads as reads
-use Rattle.sadrokki.proofs.short.extend_push.Lts as lts
-use Rattle.sadrokki.proofs.short.least_bytes.Reads as least-bytes-reads
-use Rattle.sadrokki.proofs.short.move_end.Reads as move-end-reads
-use Rattle.sadrokki.proofs.short.write_number.Reads as write-number-reads
 
--- src/short.rt:184:9
 least-bytes-requires : tie.Need-least-bytes-requires
 least-bytes-requires c κs = search needs
 
--- src/short.rt:185:35
 cast-bytes : tie.Need-cast-bytes
 cast-bytes c = search needs
 
--- src/short.rt:185:17
 add-bytes : tie.Need-add-bytes
 add-bytes c = search needs
 
--- src/short.rt:185:5
 slice-write-bytes : tie.Need-slice-write-bytes
 slice-write-bytes c = search needs
 
--- src/short.rt:186:25
 add-write-number : tie.Need-add-write-number
 add-write-number c = search needs
 
--- src/short.rt:186:5
 write-number-requires : tie.Need-write-number-requires
 write-number-requires c κs =
     let start = c .before .before .before .before in
     let a = start .args in
     omega (arith, start .pre .room, c .before .least-bytes .ensures .1, length-set (now (a .bytes)) (a .state % 2 ^ 32) (95 + c .before .least-bytes .result))
 
--- src/short.rt:187:33
 cast-move-end : tie.Need-cast-move-end
 cast-move-end c = search needs
 
--- src/short.rt:187:28
 add-move-end : tie.Need-add-move-end
 add-move-end c = search needs
 
--- src/short.rt:187:5
 move-end-requires : tie.Need-move-end-requires
 move-end-requires c κs = search needs
 
--- src/short.rt:177:1
 same-length : tie.Need-same-length
 same-length c =
     let a = c .before .before .before .before .before .before .before .before .before .before .before .args in
     c .before .before .before .before .before .before .write-number .kept .0 ∙ length-set (now (a .bytes)) (a .state % 2 ^ 32) (95 + c .before .before .before .before .before .before .before .before .least-bytes .result)
 
--- src/short.rt:177:1
 same-length-2 : tie.Need-same-length-2
 same-length-2 c = search needs
 
--- src/short.rt:177:1
 returns : tie.Need-returns
 returns c =
     let start = c .before .before .before .before .before .before .before .before .before .before .before in

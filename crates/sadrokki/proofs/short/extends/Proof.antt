@@ -1,65 +1,50 @@
+-- Each test on the way is a field.
+-- Assumes nothing.
 use native.Mathlib.Omega.{arith}
 use mathlib.Core.Bool.{false≢true}
 use borrow.Author.Needs.{needs}
 use Rattle.sadrokki.proofs.short.extends.Statement.{statement}
 use Rattle.sadrokki.proofs.short.extends.Tie as tie
-use Rattle.sadrokki.proofs.short.extends.Reads as reads
-use Rattle.sadrokki.proofs.short.extends.Lts as lts
-use Rattle.sadrokki.proofs.short.is_kind_to.Reads as is-kind-to-reads
 
--- src/short.rt:113:22
 add-if1 : tie.Need-add-if1
 add-if1 c = search needs
 
--- src/short.rt:114:9
 returns : tie.Need-returns
 returns c = λ h. absurd (false≢true h)
 
--- src/short.rt:116:9
 cast-if2 : tie.Need-cast-if2
 cast-if2 c = search needs
 
--- src/short.rt:116:42
 add-if2 : tie.Need-add-if2
 add-if2 c = search needs
 
--- src/short.rt:117:9
 returns-2 : tie.Need-returns-2
 returns-2 c = λ h. absurd (false≢true h)
 
--- src/short.rt:119:9
 cast-if3 : tie.Need-cast-if3
 cast-if3 c = search needs
 
--- src/short.rt:120:9
 returns-3 : tie.Need-returns-3
 returns-3 c = λ h. absurd (false≢true h)
 
--- src/short.rt:123:9
 returns-4 : tie.Need-returns-4
 returns-4 c = λ h. absurd (false≢true h)
 
--- src/short.rt:125:22
 mul-if5 : tie.Need-mul-if5
 mul-if5 c = search needs
 
--- src/short.rt:126:9
 returns-5 : tie.Need-returns-5
 returns-5 c = λ h. absurd (false≢true h)
 
--- src/short.rt:128:23
 sub-is-kind-to : tie.Need-sub-is-kind-to
 sub-is-kind-to c = search needs
 
--- src/short.rt:128:43
 cast-is-kind-to : tie.Need-cast-is-kind-to
 cast-is-kind-to c = search needs
 
--- src/short.rt:128:5
 is-kind-to-requires : tie.Need-is-kind-to-requires
 is-kind-to-requires c κs = search needs
 
--- src/short.rt:107:1
 returns-6 : tie.Need-returns-6
 returns-6 c =
     λ h. record {

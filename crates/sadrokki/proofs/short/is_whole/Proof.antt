@@ -1,124 +1,93 @@
+-- A section with such words can be read, by its kind.
+-- Assumes nothing.
 use Rattle.sadrokki.proofs.Ways.{whole-mark, whole-bytes, whole-reference}
 use native.Mathlib.Omega.{arith}
 use mathlib.Core.Bool.{false≢true}
 use borrow.Author.Needs.{needs}
 use Rattle.sadrokki.proofs.short.is_whole.Statement.{statement}
 use Rattle.sadrokki.proofs.short.is_whole.Tie as tie
-use Rattle.sadrokki.proofs.short.is_whole.Reads as reads
-use Rattle.sadrokki.proofs.short.is_whole.Lts as lts
-use Rattle.sadrokki.proofs.short.ends_at.Reads as ends-at-reads
-use Rattle.sadrokki.proofs.short.is_mark.Reads as is-mark-reads
-use Rattle.sadrokki.proofs.short.is_reference.Reads as is-reference-reads
 
--- src/short.rt:48:14
 mul-at : tie.Need-mul-at
 mul-at c = search needs
 
--- src/short.rt:49:16
 mul-kind : tie.Need-mul-kind
 mul-kind c = search needs
 
--- src/short.rt:49:16
 shared-slice-read-kind : tie.Need-shared-slice-read-kind
 shared-slice-read-kind c = search needs
 
--- src/short.rt:51:30
 add-is-mark : tie.Need-add-is-mark
 add-is-mark c = search needs
 
--- src/short.rt:51:24
 mul-is-mark : tie.Need-mul-is-mark
 mul-is-mark c = search needs
 
--- src/short.rt:51:24
 shared-slice-read-is-mark : tie.Need-shared-slice-read-is-mark
 shared-slice-read-is-mark c = search needs
 
--- src/short.rt:51:45
 add-is-mark-2 : tie.Need-add-is-mark-2
 add-is-mark-2 c = search needs
 
--- src/short.rt:51:39
 mul-is-mark-2 : tie.Need-mul-is-mark-2
 mul-is-mark-2 c = search needs
 
--- src/short.rt:51:39
 shared-slice-read-is-mark-2 : tie.Need-shared-slice-read-is-mark-2
 shared-slice-read-is-mark-2 c = search needs
 
--- src/short.rt:51:9
 is-mark-requires : tie.Need-is-mark-requires
 is-mark-requires c κs = search needs
 
--- src/short.rt:51:9
 returns : tie.Need-returns
 returns c = λ h. whole-mark _ _ (c .before .before .before .if1 .taken) (c .is-mark .ensures h .0) (c .is-mark .ensures h .1)
 
--- src/short.rt:54:30
 add-ends-at : tie.Need-add-ends-at
 add-ends-at c = search needs
 
--- src/short.rt:54:24
 mul-ends-at : tie.Need-mul-ends-at
 mul-ends-at c = search needs
 
--- src/short.rt:54:24
 shared-slice-read-ends-at : tie.Need-shared-slice-read-ends-at
 shared-slice-read-ends-at c = search needs
 
--- src/short.rt:54:45
 add-ends-at-2 : tie.Need-add-ends-at-2
 add-ends-at-2 c = search needs
 
--- src/short.rt:54:39
 mul-ends-at-2 : tie.Need-mul-ends-at-2
 mul-ends-at-2 c = search needs
 
--- src/short.rt:54:39
 shared-slice-read-ends-at-2 : tie.Need-shared-slice-read-ends-at-2
 shared-slice-read-ends-at-2 c = search needs
 
--- src/short.rt:54:9
 ends-at-requires : tie.Need-ends-at-requires
 ends-at-requires c κs = search needs
 
--- src/short.rt:54:9
 returns-2 : tie.Need-returns-2
 returns-2 c = λ h. whole-bytes _ _ (omega (arith, c .before .before .before .before .if1 .left)) (c .before .before .before .if2 .taken) (c .ends-at .ensures h .0) (c .ends-at .ensures h .1)
 
--- src/short.rt:57:9
 returns-3 : tie.Need-returns-3
 returns-3 c = λ h. absurd (false≢true h)
 
--- src/short.rt:59:30
 add-is-reference : tie.Need-add-is-reference
 add-is-reference c = search needs
 
--- src/short.rt:59:24
 mul-is-reference : tie.Need-mul-is-reference
 mul-is-reference c = search needs
 
--- src/short.rt:59:24
 shared-slice-read-is-reference : tie.Need-shared-slice-read-is-reference
 shared-slice-read-is-reference c = search needs
 
--- src/short.rt:59:45
 add-is-reference-2 : tie.Need-add-is-reference-2
 add-is-reference-2 c = search needs
 
--- src/short.rt:59:39
 mul-is-reference-2 : tie.Need-mul-is-reference-2
 mul-is-reference-2 c = search needs
 
--- src/short.rt:59:39
 shared-slice-read-is-reference-2 : tie.Need-shared-slice-read-is-reference-2
 shared-slice-read-is-reference-2 c = search needs
 
--- src/short.rt:59:5
 is-reference-requires : tie.Need-is-reference-requires
 is-reference-requires c κs = search needs
 
--- src/short.rt:44:1
 returns-4 : tie.Need-returns-4
 returns-4 c = λ h. whole-reference _ _ (omega arith) (c .is-reference .ensures h)
 

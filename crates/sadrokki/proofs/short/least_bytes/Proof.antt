@@ -1,13 +1,13 @@
+-- The invariant: the bytes counted and those of the rest are all. The measure is the rest.
+-- Assumes nothing.
 use native.Mathlib.Nat.{sub-zero}
 use Rattle.units.specs.Numbers.{leastBytes}
 use mathlib.Core.Path.{_≡_}
-use Prim.Native.Nat.{ℕ, _+_, _-_}
+use Prim.Native.Nat.{_+_, _-_}
 use Rattle.sadrokki.proofs.Ways.{least-more, least-all, least-eight}
 use native.Mathlib.Omega.{arith}
 use Rattle.sadrokki.proofs.short.least_bytes.Statement.{statement}
 use Rattle.sadrokki.proofs.short.least_bytes.Tie as tie
-use Rattle.sadrokki.proofs.short.least_bytes.Reads as reads
-use Rattle.sadrokki.proofs.short.least_bytes.Lts as lts
 
 abbrev Inv-loop : tie.InvT-loop
 Inv-loop value count₀ rest₀ count rest = leastBytes 32 value ≡ count + leastBytes (32 - count) rest
@@ -15,23 +15,18 @@ Inv-loop value count₀ rest₀ count rest = leastBytes 32 value ≡ count + lea
 abbrev μ-loop : tie.MeasureT-loop
 μ-loop value count₀ rest₀ count rest = rest
 
--- src/short.rt:207:5
 loop-holds : tie.Need-loop-holds Inv-loop μ-loop
 loop-holds c = omega (arith, sub-zero 32)
 
--- src/short.rt:209:9
 add-count : tie.Need-add-count Inv-loop μ-loop
 add-count c = omega (arith, c .before .loop .inv, least-eight (c .before .before .args .value) (omega arith))
 
--- src/short.rt:207:5
 loop-less : tie.Need-loop-less Inv-loop μ-loop
 loop-less c = omega arith
 
--- src/short.rt:207:5
 loop-again : tie.Need-loop-again Inv-loop μ-loop
 loop-again c = least-more _ _ _ (omega (arith, c .before .loop .inv, least-eight (c .before .before .args .value) (omega arith))) (c .before .loop .inv) (omega arith)
 
--- src/short.rt:202:1
 returns : tie.Need-returns Inv-loop μ-loop
 returns c =
     let all = least-all _ _ _ (c .before .loop .inv) (omega arith) in

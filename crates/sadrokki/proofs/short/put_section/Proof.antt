@@ -1,3 +1,5 @@
+-- Three stores in a row.
+-- Assumes nothing.
 use Rattle.store.specs.Adding.{storedSection}
 use Rattle.store.proofs.Parts.{three-stores}
 use Prim.Native.Nat.{_+_, _*_, _/_, _^_, _≤_}
@@ -8,54 +10,40 @@ use native.Mathlib.Omega.{arith}
 use borrow.Author.Needs.{needs}
 use Rattle.sadrokki.proofs.short.put_section.Statement.{statement}
 use Rattle.sadrokki.proofs.short.put_section.Tie as tie
-use Rattle.sadrokki.proofs.short.put_section.Reads as reads
-use Rattle.sadrokki.proofs.short.put_section.Lts as lts
 
--- src/short.rt:99:14
 mul-at : tie.Need-mul-at
 mul-at c = search needs
 
--- src/short.rt:100:5
 mul-words : tie.Need-mul-words
 mul-words c = search needs
 
--- src/short.rt:100:5
 slice-write-words : tie.Need-slice-write-words
 slice-write-words c = search needs
 
--- src/short.rt:101:11
 add-words : tie.Need-add-words
 add-words c = search needs
 
--- src/short.rt:101:5
 mul-words-2 : tie.Need-mul-words-2
 mul-words-2 c = search needs
 
--- src/short.rt:101:5
 slice-write-words-2 : tie.Need-slice-write-words-2
 slice-write-words-2 c = simp length-set (omega (arith, c .pre))
 
--- src/short.rt:102:11
 add-words-2 : tie.Need-add-words-2
 add-words-2 c = search needs
 
--- src/short.rt:102:5
 mul-words-3 : tie.Need-mul-words-3
 mul-words-3 c = search needs
 
--- src/short.rt:102:5
 slice-write-words-3 : tie.Need-slice-write-words-3
 slice-write-words-3 c = simp length-set (omega (arith, c .pre))
 
--- src/short.rt:103:5
 add-result : tie.Need-add-result
 add-result c = search needs
 
--- src/short.rt:94:1
 same-length : tie.Need-same-length
 same-length c = search needs
 
--- src/short.rt:94:1
 returns : tie.Need-returns
 returns c =
     let a = c .args in

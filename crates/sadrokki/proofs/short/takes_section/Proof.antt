@@ -1,65 +1,50 @@
+-- Each test on the way is a field.
+-- Assumes nothing.
 use native.Mathlib.Omega.{arith}
 use mathlib.Core.Bool.{false≢true}
 use borrow.Author.Needs.{needs}
 use Rattle.sadrokki.proofs.short.takes_section.Statement.{statement}
 use Rattle.sadrokki.proofs.short.takes_section.Tie as tie
-use Rattle.sadrokki.proofs.short.takes_section.Reads as reads
-use Rattle.sadrokki.proofs.short.takes_section.Lts as lts
-use Rattle.sadrokki.proofs.short.is_whole.Reads as is-whole-reads
 
--- src/short.rt:22:18
 cast-stored : tie.Need-cast-stored
 cast-stored c = search needs
 
--- src/short.rt:23:20
 cast-sections : tie.Need-cast-sections
 cast-sections c = search needs
 
--- src/short.rt:25:9
 returns : tie.Need-returns
 returns c = λ h. absurd (false≢true h)
 
--- src/short.rt:28:9
 returns-2 : tie.Need-returns-2
 returns-2 c = λ h. absurd (false≢true h)
 
--- src/short.rt:31:9
 returns-3 : tie.Need-returns-3
 returns-3 c = λ h. absurd (false≢true h)
 
--- src/short.rt:33:23
 cast-if4 : tie.Need-cast-if4
 cast-if4 c = search needs
 
--- src/short.rt:34:9
 returns-4 : tie.Need-returns-4
 returns-4 c = λ h. absurd (false≢true h)
 
--- src/short.rt:36:16
 cast-next : tie.Need-cast-next
 cast-next c = search needs
 
--- src/short.rt:37:22
 mul-if5 : tie.Need-mul-if5
 mul-if5 c = search needs
 
--- src/short.rt:37:22
 add-if5 : tie.Need-add-if5
 add-if5 c = search needs
 
--- src/short.rt:38:9
 returns-5 : tie.Need-returns-5
 returns-5 c = λ h. absurd (false≢true h)
 
--- src/short.rt:40:21
 sub-is-whole : tie.Need-sub-is-whole
 sub-is-whole c = search needs
 
--- src/short.rt:40:5
 is-whole-requires : tie.Need-is-whole-requires
 is-whole-requires c κs = search needs
 
--- src/short.rt:19:1
 returns-6 : tie.Need-returns-6
 returns-6 c =
     λ h. record {

@@ -1,17 +1,16 @@
+-- The invariant: the bytes left, written over what there is now, are the number. The measure is what is left.
+-- Assumes nothing.
 use Rattle.sadrokki.proofs.Ways.{digits-done}
-use Rattle.emission.proofs.Rows.{over-digit, over-nothing}
+use Rattle.emission.proofs.Rows.{over-digit}
 use Rattle.store.specs.Calls.{over}
 use Rattle.units.specs.Numbers.{bigEndian}
 use lib.ListN.{length, length-set}
 use native.Mathlib.Nat.{mod-lt}
 use Prim.Native.Nat.{ℕ, suc, _+_, _-_, _%_, _≤_, _<_}
-use mathlib.Core.Path.{_≡_, refl, sym, ap, _∙_}
-use denote.Ref.{now}
+use mathlib.Core.Path.{_≡_, refl, ap, _∙_}
 use native.Mathlib.Omega.{arith}
 use Rattle.sadrokki.proofs.short.write_number.Statement.{statement}
 use Rattle.sadrokki.proofs.short.write_number.Tie as tie
-use Rattle.sadrokki.proofs.short.write_number.Reads as reads
-use Rattle.sadrokki.proofs.short.write_number.Lts as lts
 
 abbrev Inv-loop : tie.InvT-loop
 Inv-loop bytes₀ at count value left₀ rest₀ bytes left rest = (left ≤ count) × (length bytes ≡ length bytes₀) × (over bytes at (bigEndian left rest) ≡ over bytes₀ at (bigEndian count value))
@@ -19,33 +18,26 @@ Inv-loop bytes₀ at count value left₀ rest₀ bytes left rest = (left ≤ cou
 abbrev μ-loop : tie.MeasureT-loop
 μ-loop bytes₀ at count value left₀ rest₀ bytes left rest = left
 
--- src/short.rt:221:5
 loop-holds : tie.Need-loop-holds Inv-loop μ-loop
 loop-holds c = (omega arith, refl, refl)
 
--- src/short.rt:222:9
 sub-left : tie.Need-sub-left Inv-loop μ-loop
 sub-left c = omega arith
 
--- src/short.rt:223:28
 cast-bytes : tie.Need-cast-bytes Inv-loop μ-loop
 cast-bytes c =
     let small : c .before .loop .rest % 256 < 256 = mod-lt (c .before .loop .rest) (omega arith) in
     omega arith
 
--- src/short.rt:223:15
 add-bytes : tie.Need-add-bytes Inv-loop μ-loop
 add-bytes c = omega (arith, c .before .before .pre)
 
--- src/short.rt:223:9
 slice-write-bytes : tie.Need-slice-write-bytes Inv-loop μ-loop
 slice-write-bytes c = omega (arith, c .before .before .pre)
 
--- src/short.rt:221:5
 loop-less : tie.Need-loop-less Inv-loop μ-loop
 loop-less c = omega arith
 
--- src/short.rt:221:5
 loop-again : tie.Need-loop-again Inv-loop μ-loop
 loop-again c =
     let turn = c .before .loop in
@@ -57,11 +49,9 @@ loop-again c =
       over-digit (turn .bytes) (a .at) (turn .left - 1) (turn .rest) fits ∙ ap (λ (k : ℕ). over (turn .bytes) (a .at) (bigEndian k (turn .rest))) same ∙ turn .inv .2,
     )
 
--- src/short.rt:215:1
 same-length : tie.Need-same-length Inv-loop μ-loop
 same-length c = c .before .loop .inv .1
 
--- src/short.rt:215:1
 returns : tie.Need-returns Inv-loop μ-loop
 returns c = digits-done _ (c .before .before .args .at) _ (c .before .loop .rest) (omega arith) ∙ c .before .loop .inv .2
 
