@@ -282,6 +282,7 @@ fn exchanges_three(n: u8, m: u8) -> bool
     n != m
 }
 
+// The numbers of marks.
 fn are_marks(start: u32, end: u32) -> bool
     ensures { λ r. ⌜ (r ≡ true → (start ≤ maxMark) × («end» ≤ maxMark)) ⌝ }
 {

@@ -59,6 +59,7 @@ fn is_whole(words: &[u32], i: usize, stored: u32) -> bool
     is_reference(kind, words[at + 1], words[at + 2])
 }
 
+// The fields of a mark.
 fn is_mark(first: u32, second: u32) -> bool
     ensures { λ r. ⌜ (r ≡ true → (first ≤ maxMark) × (second ≡ 0)) ⌝ }
 {
@@ -68,6 +69,7 @@ fn is_mark(first: u32, second: u32) -> bool
     first <= Assembler::MAX_MARK
 }
 
+// The fields of bytes that end at the stored count.
 fn ends_at(first: u32, second: u32, stored: u32) -> bool
     ensures { λ r. ⌜ (r ≡ true → (first ≤ stored) × (second ≡ stored)) ⌝ }
 {
@@ -77,6 +79,7 @@ fn ends_at(first: u32, second: u32, stored: u32) -> bool
     first <= stored
 }
 
+// The fields of a reference of this kind.
 fn is_reference(kind: u32, first: u32, second: u32) -> bool
     requires { ⌜ (3 ≤ kind) × (kind ≤ 13) ⌝ }
     ensures { λ r. ⌜ (r ≡ true → unreadable (readSection (storedSection kind first second)) ≡ false) ⌝ }
