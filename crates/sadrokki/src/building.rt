@@ -58,6 +58,7 @@ pub extern "C" fn sadrokki_push_mark(state: u64, bytes: &[u8], words: &mut [u32]
             return put_section(state, words, 0, mark, 0);
         }
     }
+    // A slice lent on goes by way of memory; taken anew, it does so here only and not on the short way.
     add_alone(state, &bytes[..], words, 0, mark, 0)
 }
 
@@ -336,7 +337,8 @@ fn begins_ops(state: u64, bytes: &[u8], words: &[u32]) -> bool
     words[Assembler::WORDS * last] != 1
 }
 
-// Adds a mark or a reference, given as its three words: the Rattle function judges it. With three callers it stays a function of its own.
+// Adds a mark or a reference, given as its three words: the Rattle function judges it. With three callers it stays a function of its own,
+// which the short ways need: inlined it gives them a stack frame.
 fn add_alone(state: u64, bytes: &[u8], words: &mut [u32], kind: u32, first: u32, second: u32) -> u64
     ensures reply { λ r. ⌜ ((al : Alone) → storedSection kind first second ≡ wordsOf 0 (aloneSection al) → r ≡ builtNumber (pushReply wordsPerSection (aloneCall al) (storeIn state (now (bytes .entry)) (now (words .entry))))) ⌝ }
     ensures words { λ _. ⌜ ((al : Alone) → storedSection kind first second ≡ wordsOf 0 (aloneSection al) → now (words .exit) ≡ pushAfter wordsPerSection (aloneCall al) (storeIn state (now (bytes .entry)) (now (words .entry))) .words) ⌝ }
