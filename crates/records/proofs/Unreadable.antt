@@ -2,16 +2,20 @@
 use Prim.Native.Nat.{ℕ, zero, suc, _-_, _≤_, _<_}
 use native.Mathlib.Omega.{arith}
 use mathlib.Core.Path.{_≡_, refl, sym, ap, _∙_}
-use mathlib.Core.Bool.{Bool, true, false, _&&_, _||_, true≢false}
+use mathlib.Core.Bool.{Bool, true, false, cond, _&&_, _||_, true≢false}
 use lib.Dec.{ltb, eqb}
 use borrow.Author.Tests.{eqb-true, eqb-false, ltb-true, ltb-false, ne-eqb, lt-ltb, le-ltb}
 use Rattle.units.specs.declared.BytesSpan.{BytesSpan}
 use Rattle.records.specs.Record.{maxMark, readMark, readSpan, readDirect, readDelta, readSection}
-use Rattle.records.specs.Damage.{unreadable, isSpan, greatestSecond}
+use Rattle.records.specs.Damage.{unreadable, isSpan}
 use Rattle.records.specs.declared.record.AsmSection.{AsmSection}
 use Rattle.records.specs.declared.record.AsmSection.the-variants.{Ops, Data}
 use Rattle.records.specs.declared.record.StoredSection.{StoredSection}
 use Rattle.records.proofs.Reading.{mark-large, mark-read, mark-field, span-read, span-bad, direct-large, direct-raw, direct-pushed, direct-between, direct-above, delta-start, delta-end, delta-read, section-mark, section-ops, section-data, section-direct, section-pushed-delta, section-raw-delta, section-unlisted}
+
+-- the greatest second word of a section without bytes, by its kind word
+abbrev greatestSecond : ℕ → ℕ
+greatestSecond k = cond (eqb k 0) 0 (cond (eqb k 3) 12 maxMark)
 
 -- a number that is none of the first four
 above : (k : ℕ) → (k ≡ 0 → ⊥) → (k ≡ 1 → ⊥) → (k ≡ 2 → ⊥) → (k ≡ 3 → ⊥) → 4 ≤ k

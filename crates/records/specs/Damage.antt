@@ -3,7 +3,7 @@
 use Prim.Native.Nat.{ℕ, zero, suc, _-_}
 use mathlib.Core.Bool.{Bool, true, false, cond, not, _&&_, _||_}
 use lib.Dec.{ltb, eqb}
-use Rattle.records.specs.Record.{readSection, maxMark, markKind, opsKind, dataKind, directKind}
+use Rattle.records.specs.Record.{readSection, opsKind, dataKind}
 use Rattle.records.specs.Store.{Store, sectionWords, badCounts}
 use Rattle.records.specs.declared.record.SectionRead.{SectionRead}
 use Rattle.records.specs.declared.record.SectionRead.the-variants.{Read, Damaged}
@@ -19,10 +19,6 @@ unreadable Damaged = true
 -- an Ops or Data section, by its kind word alone
 abbrev pub isSpan : ℕ → Bool
 isSpan k = eqb k opsKind || eqb k dataKind
-
--- the greatest second word of a section that is neither, by its kind word
-abbrev pub greatestSecond : ℕ → ℕ
-greatestSecond k = cond (eqb k markKind) 0 (cond (eqb k directKind) 12 maxMark)
 
 -- the end of the last Ops or Data section among the first n sections, 0 if there is none
 unfoldable pub endBefore : ℕ → Store → ℕ → ℕ

@@ -7,8 +7,8 @@ ghost use Prim.Native.Nat.{_+_, _*_, _≤_};
 ghost use lib.Dec.{ltb, eqb};
 ghost use lib.ListN.{length};
 ghost use Rattle.records.specs.Store.{storeOf, wordsPerSection, wordsAt, badCounts};
-ghost use Rattle.records.specs.Record.{readSection};
-ghost use Rattle.records.specs.Damage.{unreadable, isSpan, greatestSecond, spansEnd, brokenSection, brokenLast, brokenReply, wholeSoundness, lastSoundness};
+ghost use Rattle.records.specs.Record.{readSection, maxMark};
+ghost use Rattle.records.specs.Damage.{unreadable, isSpan, spansEnd, brokenSection, brokenLast, brokenReply, wholeSoundness, lastSoundness};
 
 // Sound, or the section that number 6 reports.
 pub enum Soundness {
@@ -120,7 +120,7 @@ fn spans_end(store: Assembler, bytes: &[u8], words: &[u32]) -> u32
 
 // The greatest second word of a section without bytes, by its kind word.
 fn greatest_second(kind: u32) -> u32
-    ensures { λ r. ⌜ r ≡ greatestSecond kind ⌝ }
+    ensures { λ r. ⌜ r ≡ cond (eqb kind 0) 0 (cond (eqb kind 3) 12 maxMark) ⌝ }
 {
     if kind == 0 {
         0
