@@ -13,8 +13,8 @@ use Rattle.records.specs.Sections.{decode}
 use Rattle.records.specs.Damage.{wholeSoundness}
 use Rattle.records.specs.declared.damage.Soundness.{Soundness}
 use Rattle.records.specs.declared.damage.Soundness.the-variants as soundness
-use Rattle.store_view.specs.View.{Undamaged}
-use Rattle.store_view.proofs.Soundness.{damaged-at-iff}
+use Rattle.undamaged.specs.View.{Undamaged}
+use Rattle.undamaged.proofs.Soundness.{damaged-at-iff}
 use Rattle.layout.specs.Answer.{Answer, laidOut, refused as noLayout, answer, Says}
 use Rattle.layout.proofs.Answers.{answer-law}
 use Rattle.settling.specs.Settle.{settleAnswer}

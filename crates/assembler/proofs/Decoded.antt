@@ -13,8 +13,8 @@ use Rattle.records.specs.Sections.{Section, mark, ops, bytes, reference, sectio
 use Rattle.records.specs.declared.record.AsmSection.the-variants.{MarkRef}
 use Rattle.records.specs.declared.record.SectionRead.the-variants.{Read}
 use Rattle.layout.specs.Conditions.{sectionAt, sumOf, storedBytes, references}
-use Rattle.store_view.specs.View.{Facts}
-use Rattle.store_view.proofs.Soundness.{undamaged-iff}
+use Rattle.undamaged.specs.View.{Facts}
+use Rattle.undamaged.proofs.Soundness.{undamaged-iff}
 use Rattle.settling.proofs.Sections.{getD-decode, decode-count, stored-is}
 
 -- section i of the list

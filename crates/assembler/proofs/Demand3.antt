@@ -12,10 +12,10 @@ use Rattle.units.specs.declared.MarkReference.the-variants.{Direct, Delta}
 use Rattle.units.specs.declared.reply.Refusal.the-variants.{TooNarrow}
 use Rattle.records.specs.Store.{Store}
 use Rattle.records.specs.Sections.{Section, mark, ops, bytes, reference, decode}
-use Rattle.store.specs.Calls.{over}
-use Rattle.store_view.specs.View.{Facts}
-use Rattle.store_view.proofs.Over.{slice-over}
-use Rattle.store_view.proofs.Soundness.{undamaged-iff}
+use Rattle.slices.specs.Over.{over}
+use Rattle.undamaged.specs.View.{Facts}
+use Rattle.slices.proofs.Over.{slice-over}
+use Rattle.undamaged.proofs.Soundness.{undamaged-iff}
 use Rattle.layout.specs.Layout.{Layout, inAll, GivesEnough}
 use Rattle.layout.specs.Passes.{entry, Settling, settled, narrowAt, unsettled, settle}
 use Rattle.layout.specs.Conditions.{sectionAt, Never, refers, backwardBy, backwardAt, isDelta, deltaAt, Premise}

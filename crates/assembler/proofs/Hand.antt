@@ -9,7 +9,8 @@ use Rattle.units.specs.Numbers.{heldBytes}
 use Rattle.units.specs.Reference.{leastSize, size, tooNarrow}
 use Rattle.records.specs.Record.{setSizeOf, readMark, readSpan, readDirect, readDelta, readSection}
 use Rattle.records.specs.Store.{Store, badCounts}
-use Rattle.records.specs.Damage.{endBefore, spansEnd, breaksRule, leastFrom, badCount, brokenReply, wholeSoundness}
+use Rattle.records.specs.Damage.{endBefore, spansEnd, breaksRule, badCount, brokenReply, wholeSoundness}
+use Rattle.slices.specs.First.{leastFrom}
 use Rattle.records.specs.Sections.{decodeAt, decodeFrom, decode}
 use Rattle.layout.specs.Layout.{Layout, inAll, GivesEnough}
 use Rattle.layout.specs.Passes.{startFrom, start, walkFrom, pass, passes, settle}

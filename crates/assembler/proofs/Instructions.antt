@@ -7,7 +7,7 @@ use mathlib.Core.List.{List}
 use lib.ListN.{length}
 use Rattle.records.specs.Store.{Store}
 use Rattle.records.specs.Sections.{decode}
-use Rattle.store.specs.Calls.{over}
+use Rattle.slices.specs.Over.{over}
 use Rattle.layout.specs.Passes.{entry}
 use Rattle.layout.specs.Answer.{Answer, laidOut, refused as noLayout}
 use Rattle.settling.specs.Settle.{settleAnswer}

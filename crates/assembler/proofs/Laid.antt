@@ -28,9 +28,9 @@ use Rattle.layout.proofs.Answers.{settle-law, answer-law}
 use Rattle.layout.proofs.Moves.{Still, or-false}
 use Rattle.layout.proofs.Rule.{Sizes}
 use Rattle.layout.proofs.Today.{today}
-use Rattle.store_view.specs.View.{Undamaged, Facts}
-use Rattle.store_view.proofs.Reading.{View, unread, as-ops, as-data, as-mark, as-reference, view}
-use Rattle.store_view.proofs.Soundness.{undamaged-iff}
+use Rattle.undamaged.specs.View.{Undamaged, Facts}
+use Rattle.undamaged.proofs.Reading.{View, unread, as-ops, as-data, as-mark, as-reference, view}
+use Rattle.undamaged.proofs.Soundness.{undamaged-iff}
 use Rattle.settling.specs.Settle.{soundAnswer, settleAnswer}
 use Rattle.settling.proofs.Sections.{decode-count, span-end}
 use Rattle.emission.specs.Emission.{codeOf}

@@ -9,8 +9,8 @@ use Rattle.units.specs.declared.reply.Refusal.{Refusal}
 use Rattle.units.specs.declared.reply.Refusal.the-variants.{ResultFull}
 use Rattle.records.specs.Store.{Store}
 use Rattle.records.specs.Sections.{decode}
-use Rattle.store.specs.Calls.{over}
-use Rattle.store_view.proofs.Over.{take-over, drop-over, length-over}
+use Rattle.slices.specs.Over.{over}
+use Rattle.slices.proofs.Over.{take-over, drop-over, length-over}
 use Rattle.layout.specs.Passes.{entry}
 use Rattle.layout.specs.Answer.{Answer, laidOut, refused as noLayout}
 use Rattle.settling.specs.Settle.{settleAnswer}

@@ -12,7 +12,7 @@ use Rattle.units.specs.declared.reply.Refusal.{Refusal}
 use Rattle.units.specs.declared.reply.Refusal.the-variants.{ResultFull}
 use Rattle.records.specs.Store.{Store}
 use Rattle.records.specs.Sections.{decode}
-use Rattle.store.specs.Calls.{over}
+use Rattle.slices.specs.Over.{over}
 use Rattle.layout.specs.Passes.{entry}
 use Rattle.layout.specs.Answer.{laidOut, refused as noLayout}
 use Rattle.layout.proofs.Moves.{or-false}

@@ -26,7 +26,7 @@ use Rattle.records.specs.declared.record.SectionRead.the-variants.{Read, Damage
 use Rattle.records.specs.declared.record.StoredSection.{StoredSection}
 use Rattle.layout.specs.Passes.{entry, valueBy}
 use Rattle.emission.specs.Emission.{byteCount, isPushZero, sectionBytes}
-use Rattle.store_view.proofs.Reading.{View, unread, as-ops, as-data, as-mark as read-mark, as-reference as read-reference, view}
+use Rattle.undamaged.proofs.Reading.{View, unread, as-ops, as-data, as-mark as read-mark, as-reference as read-reference, view}
 use Rattle.settling.specs.Pieces.{pieceRead}
 use Rattle.settling.specs.Words.{pieceOfWords, Readable, formNumber, formPiece}
 use Rattle.settling.specs.declared.piece.Piece.{Piece}

@@ -21,8 +21,8 @@ use Rattle.records.specs.declared.record.StoredSection.{StoredSection}
 use Rattle.records.specs.declared.record.AsmSection.the-variants.{Mark}
 use Rattle.records.specs.declared.record.SectionRead.{SectionRead}
 use Rattle.records.specs.declared.record.SectionRead.the-variants.{Read}
-use Rattle.store.specs.Calls.{over}
-use Rattle.store_view.proofs.Over.{length-over}
+use Rattle.slices.specs.Over.{over}
+use Rattle.slices.proofs.Over.{length-over}
 use Rattle.layout.specs.Passes.{entry}
 use Rattle.emission.specs.Emission.{byteCount, isPushZero, opcode, referenceBytes, sectionBytes, inARow, codeOf}
 use Rattle.emission.proofs.Rows.{over-nothing, over-next, over-one}

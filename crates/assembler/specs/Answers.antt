@@ -10,7 +10,7 @@ use Rattle.units.specs.declared.reply.Refusal.the-variants as reply
 use Rattle.records.specs.Store.{Store}
 use Rattle.records.specs.Sections.{decode}
 use Rattle.records.specs.Damage.{badCount}
-use Rattle.store_view.specs.View.{Undamaged, FirstBreak}
+use Rattle.undamaged.specs.View.{Undamaged, FirstBreak}
 use Rattle.layout.specs.Answer.{laidOut, refused, Says}
 use Rattle.assembler.specs.declared.Assembled.{Assembled}
 use Rattle.assembler.specs.declared.Assembled.the-variants.{Written, Refused}

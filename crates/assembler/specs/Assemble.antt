@@ -10,7 +10,7 @@ use Rattle.units.specs.declared.reply.Refusal.the-variants.{ResultFull}
 use Rattle.units.specs.Replies.{refusalNumbers}
 use Rattle.records.specs.Store.{Store}
 use Rattle.records.specs.Sections.{Section, decode}
-use Rattle.store.specs.Calls.{over}
+use Rattle.slices.specs.Over.{over}
 use Rattle.layout.specs.Passes.{entry}
 use Rattle.layout.specs.Answer.{Answer, laidOut, refused as noLayout}
 use Rattle.settling.specs.Settle.{settleAnswer}

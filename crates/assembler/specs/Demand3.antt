@@ -12,7 +12,7 @@ use Rattle.records.specs.Store.{Store}
 use Rattle.records.specs.Sections.{Section, decode}
 use Rattle.records.specs.Damage.{wholeSoundness}
 use Rattle.records.specs.declared.damage.Soundness.the-variants.{Sound}
-use Rattle.store.specs.Calls.{over}
+use Rattle.slices.specs.Over.{over}
 use Rattle.layout.specs.Layout.{Layout, inAll, GivesEnough}
 use Rattle.layout.specs.Passes.{entry, settled, narrowAt, settle}
 use Rattle.layout.specs.Conditions.{Never, placed, shortAt, unplacedAt, apartAt, deltaAt, references, passBound}

@@ -14,7 +14,7 @@ ghost use Rattle.units.specs.Numbers.{bigEndian};
 ghost use Rattle.records.specs.Record.{readSection};
 ghost use Rattle.records.specs.Store.{storeOf, wordsPerSection, wordsAt};
 ghost use Rattle.records.specs.Sections.{sectionRead, decode};
-ghost use Rattle.store.specs.Calls.{over};
+ghost use Rattle.slices.specs.Over.{over};
 ghost use Rattle.layout.specs.Passes.{entry, valueBy};
 ghost use Rattle.emission.specs.Emission.{byteCount, isPushZero, opcode, referenceBytes, sectionBytes, codeOf};
 ghost use Rattle.settling.specs.Words.{formNumber};

@@ -25,7 +25,8 @@ use Rattle.units.proofs.Widths.{refSize-le}
 use Rattle.evm.specs.YellowPaper.{isPush, pushSize, instructionLength, codeByte}
 use Rattle.evm.proofs.Steps.{isPush-push, pushSize-push}
 use Rattle.records.specs.Sections.{Section, mark}
-use Rattle.store.specs.Calls.{over, pushOp}
+use Rattle.slices.specs.Over.{over}
+use Rattle.evm.specs.Opcodes.{pushOp}
 use Rattle.instructions.proofs.Runs.{push-anywhere}
 use Rattle.layout.specs.Layout.{total, HoldsIn}
 use Rattle.layout.specs.Passes.{entry, valueBy, sizeBy}

@@ -9,8 +9,8 @@ use lib.ListN.{length, getD, take, drop, set, length-append, take-append-drop}
 use lib.Seq.{length-take-le, take-at, drop-at, drop-drop, set-split, take-set-le}
 use Rattle.units.specs.Numbers.{bigEndian}
 use Rattle.units.proofs.BigEndian.{length-bigEndian}
-use Rattle.store.specs.Calls.{over}
-use Rattle.store_view.proofs.Over.{drop-over}
+use Rattle.slices.specs.Over.{over}
+use Rattle.slices.proofs.Over.{drop-over}
 use Rattle.layout.specs.Layout.{total}
 use Rattle.emission.specs.Emission.{inARow}
 

@@ -11,7 +11,7 @@ use Rattle.units.specs.declared.SetSize.{SetSize}
 use Rattle.units.specs.declared.SetSize.the-variants.{Unsized, Sized}
 use Rattle.units.specs.declared.AsmReference.{AsmReference}
 use Rattle.records.specs.Sections.{Section, mark, ops, bytes, reference}
-use Rattle.store.specs.Calls.{pushOp}
+use Rattle.evm.specs.Opcodes.{pushOp}
 use Rattle.layout.specs.Layout.{Layout}
 use Rattle.layout.specs.Passes.{entry, valueBy}
 

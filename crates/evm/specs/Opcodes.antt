@@ -1,4 +1,4 @@
--- Document 01, module 5: `op::push_size` of op.rs (source document 002), for every byte. Assumes nothing.
+-- Opcode numbers, and document 01, module 5: `op::push_size` of op.rs (source document 002), for every byte. Assumes nothing.
 use Prim.Native.Nat.{ℕ, _+_, _-_}
 use mathlib.Core.Bool.{cond}
 use Rattle.evm.specs.YellowPaper.{among}
@@ -13,3 +13,13 @@ opPushSize op = cond (among 0x60 0x7f op) (Bytes (op - 0x60 + 1)) NoPush
 abbrev pub immediateBytes : PushSize → ℕ
 immediateBytes NoPush = 0
 immediateBytes (Bytes n) = n
+
+-- SWAP1 is hex 90, DUP1 (depth 0) hex 80, PUSH0 hex 5f and PUSH1 to PUSH32 follow it
+abbrev pub swapOp : ℕ → ℕ
+swapOp depth = 0x8f + depth
+
+abbrev pub dupOp : ℕ → ℕ
+dupOp depth = 0x80 + depth
+
+abbrev pub pushOp : ℕ → ℕ
+pushOp size = 0x5f + size

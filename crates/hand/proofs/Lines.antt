@@ -13,7 +13,7 @@ use Rattle.units.specs.declared.SetSize.the-variants.{Unsized, Sized}
 use Rattle.units.specs.declared.MarkReference.the-variants.{Direct, Delta}
 use Rattle.units.specs.declared.reply.Refusal.the-variants.{PlacedApart, TooNarrow, Backward}
 use Rattle.records.specs.Sections.{Section}
-use Rattle.records.specs.Damage.{leastFrom}
+use Rattle.slices.specs.First.{leastFrom}
 use Rattle.store.specs.Calls.{Call, push, pushMark, pushOpByte, pushData, pushReference}
 use Rattle.store.specs.Lists.{addedAfter, addedTo, runList}
 use Rattle.layout.specs.Passes.{entry, startFrom, start, walkFrom, pass, passes, settle}

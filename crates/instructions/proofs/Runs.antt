@@ -1,4 +1,4 @@
--- What the theorems of Instructions rest on: the immediate of a push is the number that its bytes are, wherever the push stands in a
+-- Pushes and SWAPs by the Yellow Paper: the immediate of a push is the number that its bytes are, wherever the push stands in a
 -- code; and runs of one and of three SWAPs. Assumes nothing.
 use Prim.Native.Nat.{ℕ, zero, suc, _+_, _≤_, _<_}
 use native.Mathlib.Omega.{arith}
@@ -9,10 +9,9 @@ use mathlib.Core.List.{List, [], _∷_, _++_}
 use mathlib.Core.Option.{some}
 use lib.ListN.{length, take, drop, length-append, length-drop}
 use lib.Seq.{take-append-seam, take-length, getD-drop, getD-append-seam, drop-append-add}
-use borrow.Author.Tests.{ne-eqb}
 use Rattle.units.specs.Numbers.{number}
 use Rattle.units.proofs.BigEndian.{number-nil, number-take}
-use Rattle.store.specs.Calls.{pushOp, swapOp, exchangeOps}
+use Rattle.evm.specs.Opcodes.{pushOp, swapOp}
 use Rattle.evm.specs.YellowPaper.{maxStack, isPush, pushSize, instructionLength, instruction, push, codeByte, immediate, exchanged, step, runFrom, run}
 use Rattle.evm.proofs.Steps.{isPush-push, pushSize-push, instruction-push, instruction-swap, instructionLength-above, step-push, step-swap, effect-of-step, runFrom-step, runFrom-end, length-exchanged, exchanged-three}
 
@@ -85,18 +84,3 @@ run-three n m stack n0 m0 nm hn hm ln lm fits =
     ∙ runFrom-swap 0 code 2 twice n (omega arith) refl (omega arith) hn (omega arith) (omega arith)
     ∙ runFrom-end 0 code 3 (exchanged 0 n twice) (omega arith)
     ∙ ap some (exchanged-three n m stack n0 m0 nm ln lm)
-
--- the bytes of an exchange with the top
-pub exchangeOps-first : (m : ℕ) → exchangeOps 0 m ≡ swapOp m ∷ []
-unfolding exchangeOps
-exchangeOps-first m = refl
-
--- the bytes of an exchange with the top, which is named second
-pub exchangeOps-second : (n : ℕ) → n ≢ 0 → exchangeOps n 0 ≡ swapOp n ∷ []
-unfolding exchangeOps
-exchangeOps-second n n0 = rw (ne-eqb n 0 n0)
-
--- the bytes of an exchange without the top
-pub exchangeOps-neither : (n m : ℕ) → n ≢ 0 → m ≢ 0 → exchangeOps n m ≡ swapOp n ∷ swapOp m ∷ swapOp n ∷ []
-unfolding exchangeOps
-exchangeOps-neither n m n0 m0 = rw (ne-eqb n 0 n0, ne-eqb m 0 m0)

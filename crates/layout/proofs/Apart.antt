@@ -12,7 +12,7 @@ use lib.Seq.{slice, take-take, take-suc}
 use borrow.Author.Tests.{eqb-true, eq-eqb, lt-ltb, le-ltb, ltb-true, ltb-false}
 use Rattle.units.specs.Reference.{leastSize}
 use Rattle.records.specs.Sections.{Section, mark, ops, bytes, reference}
-use Rattle.records.specs.Damage.{leastFrom}
+use Rattle.slices.specs.First.{leastFrom}
 use Rattle.layout.specs.Conditions.{sectionAt, someBelow, placesSome, placed, hasBytes, someBytes, bytesBetween, apartAt, sumOf}
 use Rattle.layout.proofs.Moves.{widthBy}
 use Rattle.layout.proofs.Today.{least-pos}

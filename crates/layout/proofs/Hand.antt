@@ -17,7 +17,7 @@ use Rattle.units.specs.declared.MarkReference.the-variants.{Direct, Delta}
 use Rattle.units.specs.declared.reply.Refusal.the-variants.{ShortTable, Unplaced, PlacedApart, TooNarrow, Backward}
 use Rattle.units.proofs.BigEndian.{pow256-mono}
 use Rattle.records.specs.Sections.{Section, mark, ops, bytes, reference}
-use Rattle.records.specs.Damage.{leastFrom}
+use Rattle.slices.specs.First.{leastFrom}
 use Rattle.layout.specs.Layout.{Layout, total, inAll, GivesEnough}
 use Rattle.layout.specs.Passes.{startFrom, start, walkFrom, pass, settled, narrowAt, passes, settle}
 use Rattle.layout.specs.Conditions.{first, passBound, storedBytes, references, placed, shortAt, firstShort, unplacedAt, firstUnplaced, someBytes, apartAt, firstApart, backwardAt, firstBackward, sumOf, deltaAt, Premise}

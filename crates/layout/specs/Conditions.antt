@@ -14,7 +14,7 @@ use Rattle.units.specs.declared.AsmReference.{AsmReference}
 use Rattle.units.specs.declared.MarkReference.{MarkReference}
 use Rattle.units.specs.declared.MarkReference.the-variants.{Direct, Delta}
 use Rattle.records.specs.Sections.{Section, mark, ops, bytes, reference}
-use Rattle.records.specs.Damage.{leastFrom}
+use Rattle.slices.specs.First.{leastFrom}
 use Rattle.layout.specs.Passes.{entry, start, Walked, through, leftAt, pass, Settling, settled, narrowAt, unsettled}
 
 -- section i of a list (i is below its length wherever this counts)

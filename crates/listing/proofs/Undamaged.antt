@@ -14,7 +14,8 @@ use Rattle.units.specs.declared.MarkReference.the-variants.{Direct, Delta}
 use Rattle.units.specs.declared.BytesSpan.{BytesSpan}
 use Rattle.records.specs.Record.{maxMark, markKind, opsKind, dataKind, directKind, rawDeltaKind, span, readMark, readSpan, readDirect, readDelta, readSection}
 use Rattle.records.specs.Store.{Store, maxBytes, maxSections, sectionWords, badCounts}
-use Rattle.records.specs.Damage.{unreadable, isSpan, endBefore, spansEnd, brokenSection, breaksRule, leastFrom, firstBroken, badCount, brokenReply, wholeSoundness}
+use Rattle.records.specs.Damage.{unreadable, isSpan, endBefore, spansEnd, brokenSection, breaksRule, firstBroken, badCount, brokenReply, wholeSoundness}
+use Rattle.slices.specs.First.{leastFrom}
 use Rattle.records.specs.declared.record.AsmSection.{AsmSection}
 use Rattle.records.specs.declared.record.AsmSection.the-variants.{Mark, Ops, Data, MarkRef}
 use Rattle.records.specs.declared.record.SectionRead.{SectionRead}

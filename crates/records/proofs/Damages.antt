@@ -10,7 +10,8 @@ use lib.ListN.{length}
 use borrow.Author.Tests.{lt-ltb, le-ltb, le-leb, lt-leb, eq-eqb, ne-eqb, leb-true, leb-false, not-false}
 use Rattle.records.specs.Record.{readSection}
 use Rattle.records.specs.Store.{Store, maxBytes, maxSections, sectionWords, badCounts}
-use Rattle.records.specs.Damage.{unreadable, isSpan, brokenSection, brokenLast, endBefore, spansEnd, breaksRule, leastFrom, firstBroken, badCount, brokenReply, wholeSoundness, lastBroken, badCountBuilding, lastSoundness}
+use Rattle.records.specs.Damage.{unreadable, isSpan, brokenSection, brokenLast, endBefore, spansEnd, breaksRule, firstBroken, badCount, brokenReply, wholeSoundness, lastBroken, badCountBuilding, lastSoundness}
+use Rattle.slices.specs.First.{leastFrom}
 use Rattle.records.specs.declared.record.StoredSection.{StoredSection}
 use Rattle.records.specs.declared.damage.Soundness
 use Rattle.records.specs.declared.damage.Soundness.{Soundness}

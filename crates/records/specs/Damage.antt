@@ -3,6 +3,7 @@
 use Prim.Native.Nat.{ℕ, zero, suc, _-_}
 use mathlib.Core.Bool.{Bool, true, false, cond, not, _&&_, _||_}
 use lib.Dec.{ltb, eqb}
+use Rattle.slices.specs.First.{leastFrom}
 use Rattle.records.specs.Record.{readSection, opsKind, dataKind}
 use Rattle.records.specs.Store.{Store, sectionWords, badCounts}
 use Rattle.records.specs.declared.record.SectionRead.{SectionRead}
@@ -42,11 +43,6 @@ brokenSection r previousEnd isLast stored =
 unfoldable pub breaksRule : ℕ → Store → ℕ → Bool
 breaksRule w st i =
     brokenSection (sectionWords w st i) (endBefore w st i) (eqb (suc i) (spansEnd w st (st .sections))) (st .storedBytes)
-
--- the least of the k numbers from i on that a test holds of, i + k if there is none
-unfoldable pub leastFrom : (ℕ → Bool) → ℕ → ℕ → ℕ
-leastFrom test zero i = i
-leastFrom test (suc k) i = cond (test i) i (leastFrom test k (suc i))
 
 -- the first section that breaks a rule, the count of sections if none does
 abbrev pub firstBroken : ℕ → Store → ℕ

@@ -1,5 +1,6 @@
 // The tests for number 6: the whole store's, and the lesser one of a building call.
 use crate::Assembler;
+use crate::kind;
 use crate::record::StoredSection;
 ghost use mathlib.Core.Path.{_≡_};
 ghost use mathlib.Core.Bool.{cond, _&&_};
@@ -9,6 +10,9 @@ ghost use lib.ListN.{length};
 ghost use Rattle.records.specs.Store.{storeOf, wordsPerSection, wordsAt, badCounts};
 ghost use Rattle.records.specs.Record.{readSection, maxMark};
 ghost use Rattle.records.specs.Damage.{unreadable, isSpan, spansEnd, brokenSection, brokenLast, brokenReply, wholeSoundness, lastSoundness};
+
+// The greatest form of a direct reference: pushed, of size 4.
+const MAX_FORM: u32 = 12;
 
 // Sound, or the section that number 6 reports.
 pub enum Soundness {
@@ -95,10 +99,10 @@ fn section_words(words: &[u32], i: usize) -> StoredSection
 fn is_span(kind: u32) -> bool
     ensures { λ r. ⌜ r ≡ isSpan kind ⌝ }
 {
-    if kind == 1 {
+    if kind == kind::OPS {
         return true;
     }
-    kind == 2
+    kind == kind::DATA
 }
 
 // How many sections there are up to and with the last Ops or Data section.
@@ -122,11 +126,13 @@ fn spans_end(store: Assembler, bytes: &[u8], words: &[u32]) -> u32
 fn greatest_second(kind: u32) -> u32
     ensures { λ r. ⌜ r ≡ cond (eqb kind 0) 0 (cond (eqb kind 3) 12 maxMark) ⌝ }
 {
-    if kind == 0 {
-        0
-    } else {
-        if kind == 3 { 12 } else { Assembler::MAX_MARK }
+    if kind == kind::MARK {
+        return 0;
     }
+    if kind == kind::DIRECT {
+        return MAX_FORM;
+    }
+    Assembler::MAX_MARK
 }
 
 // A section that can't be read. This is `read_section` with nothing made of what is read: every call and every walk asks it. Bytes or not is its one branch: a branch predictor can't guess the kinds of a mixed store.
@@ -142,8 +148,8 @@ fn is_unreadable(section: StoredSection) -> bool
     let limit = greatest_second(kind);
     (Assembler::MAX_MARK < first)
         | (limit < second)
-        | (13 < kind)
-        | ((kind == 3) & (4 < second) & (second < 8))
+        | (kind::LAST < kind)
+        | ((kind == kind::DIRECT) & (4 < second) & (second < 8))
 }
 
 // A section that can't be read, starts elsewhere than at the previous end, or, the last with bytes, ends elsewhere than at the stored count.

@@ -1,6 +1,7 @@
 // Document 01, module 2: the store's two counts and their limits, one section read from its words or put into words, and the
 // tests for number 6. Knows nothing of offset tables or passes.
 mod damage;
+pub mod kind;
 mod record;
 
 pub use damage::Soundness;

@@ -1,5 +1,6 @@
 // One section: read from its three words, and a reference put into words.
 use crate::Assembler;
+use crate::kind;
 use units::AsmBytesIdx;
 use units::AsmReference;
 use units::BytesSpan;
@@ -41,12 +42,12 @@ pub fn read_section(words: StoredSection) -> SectionRead
     let first = words.first;
     let second = words.second;
     match kind {
-        0 => read_mark(first, second),
-        1 => read_ops(first, second),
-        2 => read_data(first, second),
-        3 => read_direct(first, second),
-        4..=8 => read_delta(kind - 4, true, first, second),
-        9..=13 => read_delta(kind - 9, false, first, second),
+        kind::MARK => read_mark(first, second),
+        kind::OPS => read_ops(first, second),
+        kind::DATA => read_data(first, second),
+        kind::DIRECT => read_direct(first, second),
+        kind::PUSHED_DELTA..=8 => read_delta(kind - kind::PUSHED_DELTA, true, first, second),
+        kind::RAW_DELTA..=kind::LAST => read_delta(kind - kind::RAW_DELTA, false, first, second),
         _ => SectionRead::Damaged,
     }
 }
@@ -161,12 +162,16 @@ pub fn reference_words(r: AsmReference) -> StoredSection
     let size = size_number(r.set_size);
     match mark_ref {
         MarkReference::Direct(id) => StoredSection {
-            kind: 3,
+            kind: kind::DIRECT,
             first: id.0,
             second: if r.pushed { size + 8 } else { size },
         },
         MarkReference::Delta(span) => StoredSection {
-            kind: if r.pushed { size + 4 } else { size + 9 },
+            kind: if r.pushed {
+                size + kind::PUSHED_DELTA
+            } else {
+                size + kind::RAW_DELTA
+            },
             first: span.start.0,
             second: span.end.0,
         },

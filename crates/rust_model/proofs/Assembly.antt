@@ -15,9 +15,9 @@ use Rattle.units.specs.declared.reply.Refusal.{Refusal}
 use Rattle.units.specs.declared.reply.Refusal.the-variants.{TooNarrow, Unsettled, Backward}
 use Rattle.records.specs.Store.{Store, wordsPerSection}
 use Rattle.records.specs.Sections.{Section, mark, ops, bytes, reference, decode}
-use Rattle.store.specs.Calls.{over}
-use Rattle.store_view.specs.View.{Undamaged}
-use Rattle.store_view.proofs.Soundness.{undamaged-iff}
+use Rattle.slices.specs.Over.{over}
+use Rattle.undamaged.specs.View.{Undamaged}
+use Rattle.undamaged.proofs.Soundness.{undamaged-iff}
 use Rattle.layout.specs.Passes.{entry, valueBy, Settling, settled, narrowAt, unsettled, settle}
 use Rattle.layout.specs.Conditions.{sectionAt, IsFirst, Never, placesSome, someMark, namesSome, refers, placed, shortAt, unplacedAt, apartAt, backwardBy, backwardAt}
 use Rattle.layout.specs.Answer.{laidOut, refused, answer, Says, Sound}

@@ -15,10 +15,11 @@ use Rattle.records.specs.Damage.{lastSoundness}
 use Rattle.records.specs.Sections.{Section, decode}
 use Rattle.store.specs.Calls.{Push, Call, push, clear, hasLargeMark, added, bytesOf, joins, joined, appended, withSection, bytesPass, noSectionLeft, sectionPasses, pushReply, pushAfter, callReply, callAfter, runReplies, runAfter, emptied}
 use Rattle.store.specs.Lists.{addedTo}
-use Rattle.store_view.specs.View.{Undamaged}
-use Rattle.store_view.specs.Answers.{unsound, IsStored, EveryStored}
-use Rattle.store_view.proofs.Tests.{false-and, cond-case}
-use Rattle.store_view.proofs.Soundness.{undamaged-iff, undamaged-last-sound}
+use Rattle.undamaged.specs.View.{Undamaged}
+use Rattle.store_view.specs.Answers.{IsStored, EveryStored}
+use Rattle.undamaged.specs.View.{unsound}
+use Rattle.slices.proofs.Tests.{false-and, cond-case}
+use Rattle.undamaged.proofs.Soundness.{undamaged-iff, undamaged-last-sound}
 use Rattle.store_view.proofs.Added.{BytesRoom, added-apart}
 use Rattle.store_view.proofs.Refusals.{push-answers, stored-added}
 use Rattle.store_view.proofs.Calls.{large-same, call-kept, call-accepted, emptied-undamaged, emptied-decode}

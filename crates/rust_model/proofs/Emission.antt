@@ -17,7 +17,7 @@ use Rattle.units.specs.declared.MarkReference.{MarkReference}
 use Rattle.units.specs.declared.MarkReference.the-variants.{Direct, Delta}
 use Rattle.units.specs.declared.AsmReference.{AsmReference}
 use Rattle.records.specs.Sections.{Section, mark, ops, bytes, reference}
-use Rattle.store_view.proofs.Tests.{cond-true, cond-false}
+use Rattle.slices.proofs.Tests.{cond-true, cond-false}
 use Rattle.layout.specs.Passes.{entry, valueBy}
 use Rattle.layout.specs.Conditions.{sectionAt, refers, backwardBy, backwardAt}
 use Rattle.layout.proofs.Walks.{All}

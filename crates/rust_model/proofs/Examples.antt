@@ -15,8 +15,9 @@ use Rattle.units.specs.declared.SetSize.the-variants.{Unsized, Sized}
 use Rattle.units.specs.declared.MarkReference.the-variants.{Delta}
 use Rattle.records.specs.Store.{maxBytes, maxSections, wordsPerSection}
 use Rattle.records.specs.Sections.{Section}
-use Rattle.records.specs.Damage.{leastFrom}
-use Rattle.store.specs.Calls.{Call, push, clear, hasLargeMark, pushReference, over}
+use Rattle.slices.specs.First.{leastFrom}
+use Rattle.store.specs.Calls.{Call, push, clear, hasLargeMark, pushReference}
+use Rattle.slices.specs.Over.{over}
 use Rattle.units.specs.Replies.{tooNarrow}
 use Rattle.layout.specs.Passes.{entry}
 use Rattle.layout.specs.Conditions.{placed, someBytes, shortAt, firstShort, unplacedAt, firstUnplaced, apartAt, firstApart}

@@ -7,7 +7,7 @@ use lib.Seq.{slice}
 use borrow.Author.Tests.{le-leb, le-ltb}
 use Rattle.records.specs.Store.{Store, wordsPerSection}
 use Rattle.records.specs.Sections.{Section, decode}
-use Rattle.store_view.specs.View.{Undamaged}
+use Rattle.undamaged.specs.View.{Undamaged}
 use Rattle.listing.specs.Listing.{listing}
 use Rattle.listing.specs.Listing as ours
 use Rattle.listing.specs.Answer.{listed, listingReply, listingBuffer}

@@ -11,7 +11,7 @@ use borrow.Author.Tests.{eq-eqb, ne-eqb, le-leb}
 use Rattle.units.specs.Numbers.{bigEndian, leastBytes}
 use Rattle.units.proofs.BigEndian.{leastBytes-zero, leastBytes-suc}
 use Rattle.store.specs.Calls.{minimalPush}
-use Rattle.store.specs.Calls as store
+use Rattle.evm.specs.Opcodes as evm
 use Rattle.rust_model.specs.Run.{done}
 use Rattle.rust_model.specs.Building.{Assembler, opByte, opBytes, bits, leadingZeros, leBytes, pushSize, pushOp, minimal}
 use Rattle.rust_model.proofs.Runs.{andThen-last}
@@ -111,7 +111,7 @@ least-bounds : (v : ℕ) → 0 < v → (1 ≤ leastBytes 32 v) × (leastBytes 32
 least-bounds v p = let h : Holds 32 v = holds 32 v in (omega (arith, leastBytes-suc 31 v p), omega (arith, bits-le 256 v, h .least))
 
 -- so the assertion on its opcode holds
-push-op : (v : ℕ) → 0 < v → pushOp (pushSize v) ≡ done (store.pushOp (leastBytes 32 v))
+push-op : (v : ℕ) → 0 < v → pushOp (pushSize v) ≡ done (evm.pushOp (leastBytes 32 v))
 unfolding pushOp
 push-op v p =
     let b = least-bounds v p in
@@ -149,5 +149,5 @@ minimal-same a v = ⊎-elim nothing above (eq-zero-or-pos v)
 
     above : 0 < v → minimal a v ≡ opBytes a (minimalPush v)
     above p =
-        let op : ℕ = store.pushOp (leastBytes 32 v) in
+        let op : ℕ = evm.pushOp (leastBytes 32 v) in
         rw (ne-eqb v 0 (λ e. omega arith), push-op v p) (ap (λ (l : List ℕ). opBytes a (op ∷ l)) (push-bytes v p))

@@ -15,7 +15,7 @@ use Rattle.units.specs.Replies.{maxPasses}
 use Rattle.records.specs.Sections.{Section, mark, ops, bytes, reference}
 use Rattle.layout.specs.Passes.{entry, valueBy, startFrom, start, Walked, through, leftAt, unlike, walkFrom, pass, Settling, settled, narrowAt, unsettled, ended, passes, settle}
 use Rattle.layout.specs.Conditions.{sumOf, storedBytes, references}
-use Rattle.store_view.proofs.Tests.{cond-case}
+use Rattle.slices.proofs.Tests.{cond-case}
 use Rattle.settling.proofs.Sections.{size-small, least-small}
 use Rattle.rust_model.specs.Run.{Run, done, panic, andThen, Build, addU32, indexMut}
 use Rattle.rust_model.specs.Sections.{AsmSection, Mark, Ops, Data, MarkRef, minCompiledSize, compiledSize, refSizeFor, bytesToHold}

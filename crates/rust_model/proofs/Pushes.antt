@@ -19,7 +19,7 @@ use Rattle.units.specs.declared.MarkReference.the-variants.{Direct, Delta}
 use Rattle.units.specs.declared.AsmReference.{AsmReference}
 use Rattle.records.specs.Sections.{Section, mark, ops, bytes, reference}
 use Rattle.store.specs.Calls.{Push, pushMark, pushOpByte, pushSwap, pushDup, pushExchange, pushMinimalU256, pushMinimalU64, pushMinimalU32, pushData, pushReference, hasBadDepth, hasBadWord, exchangeOps, minimalPush, added}
-use Rattle.store.specs.Calls as store
+use Rattle.evm.specs.Opcodes as evm
 use Rattle.store.specs.Lists.{afterLast, addedAfter, addedTo}
 use Rattle.rust_model.specs.Run.{done, andThen, Build}
 use Rattle.rust_model.specs.Building.{Assembler, Mark, opByte, opBytes, swapOp, dupOp, swap, dup, exchange, minimal, u256, storedRef, pushCall}
@@ -39,7 +39,7 @@ pub record Pushed (p : Push) (a a′ : Assembler) : Type 0 where
 -- ---- swap, dup, exchange
 
 -- `push_swap`: the depth is 1 to 16, and the opcode ours
-swapped : (a a′ : Assembler) (d : ℕ) → swap a d ≡ done a′ → (1 ≤ d) × (d ≤ 16) × (opByte a (store.swapOp d) ≡ done a′)
+swapped : (a a′ : Assembler) (d : ℕ) → swap a d ≡ done a′ → (1 ≤ d) × (d ≤ 16) × (opByte a (evm.swapOp d) ≡ done a′)
 unfolding swap swapOp
 swapped a a′ d r =
     let r₁ = andThen-done (swapOp d) (opByte a) a′ r in
@@ -55,7 +55,7 @@ swap-pushed a a′ d k r =
     record {
       depth = or-false (eqb d 0) (ltb 16 d) .1 (ne-eqb d 0 (λ e. omega (arith, s .0)), le-ltb 16 d (s .1));
       word = refl;
-      adds = op-byte a a′ (store.swapOp d) k (s .2);
+      adds = op-byte a a′ (evm.swapOp d) k (s .2);
     }
 
 -- `push_dup`
@@ -72,7 +72,7 @@ dup-pushed a a′ d k r =
 
 -- three swaps, one after another
 thrice : (a a′ : Assembler) (d e f : ℕ) → andThen (swap a d) (λ x. andThen (swap x e) (λ y. swap y f)) ≡ done a′
-    → (d ≤ 16) × (e ≤ 16) × (opBytes a (store.swapOp d ∷ store.swapOp e ∷ store.swapOp f ∷ []) ≡ done a′)
+    → (d ≤ 16) × (e ≤ 16) × (opBytes a (evm.swapOp d ∷ evm.swapOp e ∷ evm.swapOp f ∷ []) ≡ done a′)
 unfolding opBytes
 thrice a a′ d e f r =
     let r₁ = andThen-done (swap a d) (λ x. andThen (swap x e) (λ y. swap y f)) a′ r in

@@ -18,7 +18,7 @@ use Rattle.units.specs.declared.SetSize.{SetSize}
 use Rattle.units.specs.declared.SetSize.the-variants.{Unsized, Sized}
 use Rattle.units.specs.declared.MarkReference.{MarkReference}
 use Rattle.units.specs.declared.MarkReference.the-variants.{Direct, Delta}
-use Rattle.store_view.proofs.Tests.{cond-true, cond-false}
+use Rattle.slices.proofs.Tests.{cond-true, cond-false}
 use Rattle.layout.specs.Passes.{entry, valueBy}
 use Rattle.rust_model.specs.Run.{Run, done, panic, andThen, Build, addU32, subU32, checkedSub, index, indexMut, range}
 use Rattle.rust_model.specs.Building.{Span}

@@ -24,9 +24,9 @@ use Rattle.records.specs.declared.damage.Soundness.the-variants.{Sound, Damaged
 use Rattle.store.specs.Calls.{Push, hasBadDepth, hasBadWord, hasLargeMark, added, joins, joined, appended, withSection, bytesPass, bytesOf, noSectionLeft, sectionPasses, roomReply, soundReply, addReply, pushReply}
 use Rattle.store.proofs.Adds.{sound-counts}
 use Rattle.store.proofs.Parts.{left-fits}
-use Rattle.store_view.specs.View.{Undamaged, Facts, FirstBreak, LastBreak}
-use Rattle.store_view.proofs.Tests.{cond-case}
-use Rattle.store_view.proofs.Soundness.{undamaged-iff, damaged-at-iff, last-damaged-iff}
+use Rattle.undamaged.specs.View.{Undamaged, Facts, FirstBreak, LastBreak}
+use Rattle.slices.proofs.Tests.{cond-case}
+use Rattle.undamaged.proofs.Soundness.{undamaged-iff, damaged-at-iff, last-damaged-iff}
 use Rattle.layout.specs.Passes.{entry, valueBy, Walked, leftAt, walkFrom, pass}
 use Rattle.layout.specs.Answer.{Answer, laidOut, refused as noLayout, answer, Says}
 use Rattle.layout.proofs.Answers.{answer-law}

@@ -16,7 +16,7 @@ use Rattle.units.specs.declared.MarkSpan.{MarkSpan}
 use Rattle.units.specs.declared.AsmReference.{AsmReference}
 use Rattle.units.specs.declared.MarkReference.{MarkReference}
 use Rattle.units.specs.declared.MarkReference.the-variants.{Direct, Delta}
-use Rattle.records.specs.Damage.{leastFrom}
+use Rattle.slices.specs.First.{leastFrom}
 use Rattle.records.specs.Sections.{Section, mark, ops, bytes, reference}
 use Rattle.layout.specs.Conditions.{sectionAt, first, Never, placesSome, someMark, namesSome, refers, shortAt, firstShort, unplacedAt, firstUnplaced, apartAt, firstApart, backwardAt, firstBackward, backwardBy}
 use Rattle.layout.proofs.Least.{least-range, never-law}

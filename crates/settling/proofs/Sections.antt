@@ -24,11 +24,11 @@ use Rattle.layout.specs.Conditions.{sectionAt, sumOf, storedIn}
 use Rattle.layout.proofs.Moves.{widthBy}
 use Rattle.layout.proofs.Apart.{leastBefore}
 use Rattle.layout.proofs.Today.{today, size-five}
-use Rattle.store_view.specs.View.{Undamaged, Facts}
-use Rattle.store_view.proofs.Tests.{cond-true}
-use Rattle.store_view.proofs.Reading.{View, unread, as-ops, as-data, as-mark, as-reference, view}
-use Rattle.store_view.proofs.Soundness.{undamaged-iff}
-use Rattle.store_view.proofs.Grown.{decode-snoc, end-mono}
+use Rattle.undamaged.specs.View.{Undamaged, Facts}
+use Rattle.slices.proofs.Tests.{cond-true}
+use Rattle.undamaged.proofs.Reading.{View, unread, as-ops, as-data, as-mark, as-reference, view}
+use Rattle.undamaged.proofs.Soundness.{undamaged-iff}
+use Rattle.undamaged.proofs.Sections.{decode-snoc, end-mono}
 use Rattle.settling.specs.Pieces.{sectionsOf, Whole, pieceOf, pieceRead, pieceAt, leastPiece}
 use Rattle.settling.specs.Words.{pieceOfWords, Readable}
 use Rattle.settling.specs.declared.piece.Piece.{Piece}

@@ -10,7 +10,7 @@ use lib.Dec.{eqb, ltb}
 use lib.ListN.{length, getD, set, drop, replicate, length-set}
 use lib.Seq.{getD-set-same, getD-set-other, ext-getD}
 use borrow.Author.Tests.{eqb-true, eqb-false, eq-eqb, ne-eqb, lt-ltb, le-ltb, ltb-false, not-false}
-use Rattle.records.specs.Damage.{leastFrom}
+use Rattle.slices.specs.First.{leastFrom}
 use Rattle.records.specs.Sections.{Section, mark}
 use Rattle.layout.specs.Passes.{entry, startFrom}
 use Rattle.layout.specs.Conditions.{apartAt}

@@ -23,7 +23,7 @@ use Rattle.records.specs.declared.record.SectionRead.{SectionRead}
 use Rattle.records.specs.declared.record.SectionRead.the-variants.{Damaged}
 use Rattle.records.specs.declared.record.StoredSection.{StoredSection}
 use Rattle.layout.specs.Passes.{entry}
-use Rattle.store_view.proofs.Tests.{cond-case}
+use Rattle.slices.proofs.Tests.{cond-case}
 use Rattle.settling.specs.Pieces.{pieceRead, shortPiece, unplacedPiece, backwardPiece, leastPiece}
 use Rattle.settling.specs.Words.{pieceOfWords, Readable, formNumber, formPiece, valuePiece, sizePiece}
 use Rattle.settling.specs.declared.piece.Piece.{Piece}

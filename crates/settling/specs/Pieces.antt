@@ -16,7 +16,7 @@ use Rattle.records.specs.declared.record.SectionRead.{SectionRead}
 use Rattle.records.specs.declared.record.SectionRead.the-variants.{Read, Damaged}
 use Rattle.layout.specs.Passes.{entry, Settling, settled, narrowAt, unsettled}
 use Rattle.layout.specs.Conditions.{Never, someBelow, someMark, shortAt, backwardBy}
-use Rattle.store_view.specs.View.{Undamaged}
+use Rattle.undamaged.specs.View.{Undamaged}
 use Rattle.units.specs.declared.reply.Refusal.{Refusal}
 use Rattle.settling.specs.declared.Settled.{Settled}
 use Rattle.settling.specs.declared.Settled.the-variants.{LaidOut, Refused}

@@ -1,16 +1,17 @@
 -- Document 01, module 2: the building calls. What each refuses, what it adds, and what an accepted call leaves in counts and slices,
 -- for every store, damaged or not. The words of a section are a parameter, w. Assumes nothing.
-use Prim.Native.Nat.{ℕ, zero, suc, _+_, _*_, _-_, min}
-use mathlib.Core.List.{List, [], _∷_, _++_}
-use mathlib.Core.Bool.{Bool, true, false, cond, not, _&&_, _||_}
-use lib.ListN.{length, take, drop, set, replicate}
+use Prim.Native.Nat.{ℕ, _+_, _*_, min, _-_}
+use mathlib.Core.List.{List, [], _∷_}
+use mathlib.Core.Bool.{Bool, false, cond, not, _&&_, _||_}
+use lib.ListN.{length, set, replicate}
 use lib.Dec.{ltb, eqb}
 use Rattle.units.specs.declared.MarkReference.{MarkReference}
 use Rattle.units.specs.declared.MarkReference.the-variants.{Direct, Delta}
 use Rattle.units.specs.declared.AsmReference.{AsmReference}
 use Rattle.units.specs.Numbers.{number, bigEndian, leastBytes}
+use Rattle.evm.specs.Opcodes.{swapOp, dupOp, pushOp}
+use Rattle.slices.specs.Over.{over}
 use Rattle.units.specs.Replies.{Reply, stored, refused, badDepth, badWord, largeMark, bytesFull, sectionsFull, damaged, refusalReply}
-use Rattle.records.specs.declared.Assembler.{Assembler}
 use Rattle.records.specs.declared.record.StoredSection.{StoredSection}
 use Rattle.records.specs.declared.damage.Soundness.{Soundness}
 use Rattle.records.specs.declared.damage.Soundness.the-variants.{Sound, Damaged}
@@ -92,16 +93,6 @@ hasLargeMark (pushReference r) = namesLargeMark (r .«mark_ref»)
 
 -- ---- what a call adds: one section, which may join the last one
 
--- SWAP1 is hex 90, DUP1 (depth 0) hex 80, PUSH0 hex 5f and PUSH1 to PUSH32 follow it
-abbrev pub swapOp : ℕ → ℕ
-swapOp depth = 0x8f + depth
-
-abbrev pub dupOp : ℕ → ℕ
-dupOp depth = 0x80 + depth
-
-abbrev pub pushOp : ℕ → ℕ
-pushOp size = 0x5f + size
-
 -- exchange with a 0 is one SWAP of the other; else SWAP n, m, n
 unfoldable pub exchangeOps : ℕ → ℕ → List ℕ
 exchangeOps n m =
@@ -155,10 +146,6 @@ joins w s st = ltb 0 (st .sections) && extends (sectionWords w st (st .sections 
 -- the words of a record, with 0 in those past the third
 abbrev pub recordWords : ℕ → StoredSection → List ℕ
 recordWords w r = r .kind ∷ r .first ∷ r .second ∷ replicate (w - 3) 0
-
--- `new` written over `old` from index i on
-abbrev pub over : List ℕ → ℕ → List ℕ → List ℕ
-over old i new = take i old ++ (new ++ drop (i + length new) old)
 
 -- one record appended, or the end (word 2) of the last record replaced, and the bytes appended
 abbrev pub joined : ℕ → Section → Store → Store

@@ -18,14 +18,17 @@ use Rattle.records.specs.Record.{readSection}
 use Rattle.records.specs.Store.{Store, maxBytes, maxSections, sectionWords}
 use Rattle.records.specs.Damage.{unreadable, isSpan, endBefore}
 use Rattle.records.specs.Sections.{Section, sectionRead, decodeAt, decodeFrom, decode}
-use Rattle.store.specs.Calls.{bytesOf, wordsOf, extends, joins, recordWords, over, joined, appended, withSection}
+use Rattle.store.specs.Calls.{bytesOf, wordsOf, extends, joins, recordWords, joined, appended, withSection}
+use Rattle.slices.specs.Over.{over}
 use Rattle.store.specs.Lists.{afterLast, addedAfter, addedTo}
-use Rattle.store_view.specs.View.{Facts}
-use Rattle.store_view.proofs.Tests.{and-false, cond-true, cond-false}
-use Rattle.store_view.proofs.Soundness.{last-end}
-use Rattle.store_view.proofs.Reading.{view, span-ordered, apart, extends-span, extended, large, read-back, words-start, words-end}
-use Rattle.store_view.proofs.Over.{take-over, length-over, getD-over, slice-over}
-use Rattle.store_view.proofs.Grown.{decode-snoc, row-below, take-same, end-mono, Grown, grown-facts, grown-decode}
+use Rattle.undamaged.specs.View.{Facts}
+use Rattle.slices.proofs.Tests.{and-false, cond-true, cond-false}
+use Rattle.undamaged.proofs.Soundness.{last-end}
+use Rattle.store_view.proofs.Reading.{apart, extends-span, extended, large, read-back, words-start, words-end}
+use Rattle.undamaged.proofs.Reading.{view, span-ordered}
+use Rattle.slices.proofs.Over.{take-over, length-over, getD-over, slice-over}
+use Rattle.store_view.proofs.Grown.{row-below, take-same, Grown, grown-facts, grown-decode}
+use Rattle.undamaged.proofs.Sections.{decode-snoc, end-mono}
 
 -- ---- the list
 

@@ -17,12 +17,12 @@ use Rattle.records.specs.Store.{Store, maxSections}
 use Rattle.records.specs.Damage.{endBefore}
 use Rattle.records.specs.Sections.{Section, decodeFrom, decode}
 use Rattle.store.specs.Calls.{Push, pushMark, pushOpByte, pushSwap, pushDup, pushExchange, pushMinimalU256, pushMinimalU64, pushMinimalU32, pushData, pushReference, Call, push, clear, hasLargeMark, added, bytesOf, wordsOf, joins, recordWords, joined, appended, withSection, bytesPass, noSectionLeft, sectionPasses, pushReply, pushAfter, emptied, callReply, callAfter}
-use Rattle.store_view.specs.View.{Undamaged}
+use Rattle.undamaged.specs.View.{Undamaged}
 use Rattle.store_view.specs.Answers.{Accepted, Kept}
-use Rattle.store_view.proofs.Tests.{and-false, cond-true, cond-false}
-use Rattle.store_view.proofs.Soundness.{undamaged-iff}
+use Rattle.slices.proofs.Tests.{and-false, cond-true, cond-false}
+use Rattle.undamaged.proofs.Soundness.{undamaged-iff}
 use Rattle.store_view.proofs.Reading.{large}
-use Rattle.store_view.proofs.Over.{drop-over, length-over}
+use Rattle.slices.proofs.Over.{drop-over, length-over}
 use Rattle.store_view.proofs.Grown.{row-below}
 use Rattle.store_view.proofs.Added.{BytesRoom, RowRoom, record-end, with-section}
 use Rattle.store_view.proofs.Refusals.{push-answers, refused-same, stored-added}

@@ -2,11 +2,10 @@
 -- it is undamaged, and its list is theirs with that section at the end. Appending and joining are both of this form.
 -- Assumes nothing.
 use Prim.Native.Nat.{ℕ, zero, suc, _+_, _*_, _≤_, _<_}
-use native.Mathlib.Nat.{add-zero, add-suc, suc-add, mul-suc, mul-le-mul-left, zero-add, le-refl, le-trans, le-of-eq, le-of-lt, eq-or-lt-of-le}
+use native.Mathlib.Nat.{mul-suc, mul-le-mul-left, zero-add, le-refl, le-trans, le-of-lt, eq-or-lt-of-le}
 use native.Mathlib.Omega.{arith}
 use mathlib.Core.Path.{_≡_, refl, sym, ap, ap₂, _∙_, subst, subst₂}
 use mathlib.Core.Bool.{true, false, cond}
-use mathlib.Mathlib.Data.Bool.Basic.{dichotomy}
 use mathlib.Core.List.{List, [], _∷_, _++_}
 use mathlib.Core.Logic.{_⊎_, inl, inr}
 use lib.ListN.{length, getD, take, drop}
@@ -16,17 +15,11 @@ use Rattle.records.specs.Record.{readSection}
 use Rattle.records.specs.Store.{Store, maxBytes, maxSections, sectionWords}
 use Rattle.records.specs.Damage.{unreadable, isSpan, endBefore}
 use Rattle.records.specs.Sections.{Section, sectionRead, decodeAt, decodeFrom, decode}
-use Rattle.store_view.specs.View.{Facts}
-use Rattle.store_view.proofs.Tests.{cond-true, cond-false}
-use Rattle.store_view.proofs.Reading.{view, span-ordered, same-bytes}
+use Rattle.undamaged.specs.View.{Facts}
+use Rattle.undamaged.proofs.Reading.{view, same-bytes}
+use Rattle.undamaged.proofs.Sections.{decode-snoc, span-within}
 
 -- ---- the list of sections
-
--- one more section at the end
-pub decode-snoc : (w : ℕ) (st : Store) (k i : ℕ) → decodeFrom w st (suc k) i ≡ decodeFrom w st k i ++ (decodeAt w st (i + k) ∷ [])
-unfolding decodeFrom
-decode-snoc w st zero i = rw add-zero
-decode-snoc w st (suc k) i = ap (λ (l : List Section). decodeAt w st i ∷ l) (decode-snoc w st k (suc i) ∙ rw (suc-add, add-suc))
 
 -- equal sections make equal lists
 decode-same : (w : ℕ) (old new : Store) (k i : ℕ) → ((j : ℕ) → i ≤ j → j < i + k → decodeAt w new j ≡ decodeAt w old j) → decodeFrom w new k i ≡ decodeFrom w old k i
@@ -66,31 +59,6 @@ unfolding endBefore
 ends-same w old new n zero h e l = refl
 ends-same w old new n (suc i) h e l =
     ap₂ (λ (r : StoredSection) (x : ℕ). cond (isSpan (r .kind)) (r .second) x) (section-same w old new n i h e l) (ends-same w old new n i h e (omega arith))
-
--- in an undamaged store the ends never fall
-end-step : (w : ℕ) (st : Store) (i : ℕ) → Facts w st → i < st .sections → endBefore w st i ≤ endBefore w st (suc i)
-unfolding endBefore
-end-step w st i f l = go (dichotomy (isSpan (sectionWords w st i .kind)))
-  where
-    go : (isSpan (sectionWords w st i .kind) ≡ false) ⊎ (isSpan (sectionWords w st i .kind) ≡ true) → endBefore w st i ≤ endBefore w st (suc i)
-    go (inr s) =
-        let o : sectionWords w st i .first ≤ sectionWords w st i .second = span-ordered (view (sectionWords w st i)) (f .readable i l) s in
-        omega (arith, f .starts i l s, cond-true _ (sectionWords w st i .second) (endBefore w st i) s)
-    go (inl n) = le-of-eq (sym (cond-false _ _ _ n))
-
--- over any distance
-pub end-mono : (w : ℕ) (st : Store) (i m : ℕ) → Facts w st → i ≤ m → m ≤ st .sections → endBefore w st i ≤ endBefore w st m
-end-mono w st i zero f l h = le-of-eq (ap (endBefore w st) (omega arith))
-end-mono w st i (suc m) f l h = go (eq-or-lt-of-le l) (λ a. end-mono w st i m f a (omega arith))
-  where
-    go : (i ≡ suc m) ⊎ (i < suc m) → (i ≤ m → endBefore w st i ≤ endBefore w st m) → endBefore w st i ≤ endBefore w st (suc m)
-    go (inl e) r = le-of-eq (ap (endBefore w st) e)
-    go (inr a) r = le-trans (r (omega arith)) (end-step w st m f h)
-
--- so an Ops or Data section among the first m ends at or before the last end among them
-span-within : (w : ℕ) (st : Store) (i m : ℕ) → Facts w st → i < m → m ≤ st .sections → isSpan (sectionWords w st i .kind) ≡ true → sectionWords w st i .second ≤ endBefore w st m
-unfolding endBefore
-span-within w st i m f l h s = subst (λ (x : ℕ). x ≤ endBefore w st m) (cond-true _ _ (endBefore w st i) s) (end-mono w st (suc i) m f l h)
 
 -- ---- one section after the first m
 

@@ -1,10 +1,7 @@
-pub mod Tests
-pub mod Least
-pub mod Soundness
 pub mod Reading
-pub mod Over
 pub mod Grown
 pub mod Added
 pub mod Refusals
 pub mod Calls
 pub mod Runs
+pub mod Instructions

@@ -14,8 +14,9 @@ use Rattle.records.specs.declared.damage.Soundness.the-variants.{Sound, Damaged
 use Rattle.records.specs.Store.{Store}
 use Rattle.records.specs.Damage.{lastSoundness}
 use Rattle.store.specs.Calls.{Push, hasBadDepth, hasBadWord, hasLargeMark, added, withSection, bytesPass, sectionPasses, roomReply, soundReply, addReply, pushReply, ifStored, pushAfter}
-use Rattle.store_view.specs.Answers.{NoneOf, unsound, PushAnswers}
-use Rattle.store_view.proofs.Soundness.{sectionFound}
+use Rattle.store_view.specs.Answers.{NoneOf, PushAnswers}
+use Rattle.undamaged.specs.View.{unsound}
+use Rattle.undamaged.proofs.Soundness.{sectionFound}
 
 -- ---- a chain of tests
 

@@ -7,7 +7,7 @@ use Rattle.records.specs.Store.{Store}
 use Rattle.records.specs.Sections.{decode}
 use Rattle.store.specs.Calls.{Call, emptied, callReply, callAfter, runReplies, runAfter}
 use Rattle.store.specs.Lists.{runList}
-use Rattle.store_view.specs.View.{Undamaged}
+use Rattle.undamaged.specs.View.{Undamaged}
 use Rattle.store_view.specs.Answers.{IsStored, EveryStored}
 use Rattle.store_view.proofs.Calls.{emptied-undamaged, emptied-decode, call-accepted, call-undamaged}
 

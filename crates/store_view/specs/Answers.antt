@@ -1,30 +1,24 @@
 -- What the laws of the building calls say: when each answer is given, what an accepted call makes of an undamaged store, what a call
 -- leaves alone, and that every call of a list was accepted. Assumes nothing.
-use Prim.Native.Nat.{ℕ, _*_, _≤_}
 use mathlib.Core.Path.{_≡_}
+use Prim.Native.Nat.{ℕ, _*_, _≤_}
 use mathlib.Core.Logic.{_↔_}
 use mathlib.Core.Bool.{Bool, true, false}
 use mathlib.Core.List.{List, [], _∷_}
 use lib.ListN.{length, drop}
 use Rattle.units.specs.Replies.{Reply, stored, refused, badDepth, badWord, largeMark, bytesFull, sectionsFull, damaged}
-use Rattle.records.specs.declared.damage.Soundness.{Soundness}
-use Rattle.records.specs.declared.damage.Soundness.the-variants.{Sound, Damaged}
+use Rattle.records.specs.declared.damage.Soundness.the-variants.{Damaged}
 use Rattle.records.specs.Store.{Store}
 use Rattle.records.specs.Damage.{lastSoundness}
 use Rattle.records.specs.Sections.{decode}
 use Rattle.store.specs.Calls.{Push, Call, hasBadDepth, hasBadWord, hasLargeMark, added, withSection, bytesPass, sectionPasses, pushReply, callAfter}
 use Rattle.store.specs.Lists.{callList}
-use Rattle.store_view.specs.View.{Undamaged}
+use Rattle.undamaged.specs.View.{Undamaged, unsound}
 
 -- no test of a list passes
 abbrev pub NoneOf : List Bool → Type 0
 NoneOf [] = Unit {0}
 NoneOf (b ∷ bs) = (b ≡ false) × NoneOf bs
-
--- a test that found a section
-abbrev pub unsound : Soundness → Bool
-unsound Sound = false
-unsound (Damaged i) = true
 
 -- a condition holds and none of the earlier ones does; the refusal's section and passes are 0
 abbrev pub First : List Bool → Bool → ℕ → ℕ → Type 0

@@ -1,3 +1,4 @@
 pub mod Numbers
 pub mod Reference
 pub mod Replies
+pub mod Reply

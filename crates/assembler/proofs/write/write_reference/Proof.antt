@@ -7,7 +7,7 @@ use mathlib.Core.Bool.{Bool}
 use lib.ListN.{length}
 use denote.Ref.{now}
 use Rattle.layout.specs.Passes.{entry, valueBy}
-use Rattle.store.specs.Calls.{over}
+use Rattle.slices.specs.Over.{over}
 use Rattle.emission.specs.Emission.{opcode}
 use Rattle.assembler.specs.Writing.{referenceIn}
 use Rattle.assembler.proofs.Words.{form-pushed, count-four}

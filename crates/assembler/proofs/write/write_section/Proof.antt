@@ -6,7 +6,7 @@ use mathlib.Core.List.{List}
 use lib.ListN.{length}
 use denote.Ref.{now}
 use Rattle.records.specs.Record.{readSection}
-use Rattle.store.specs.Calls.{over}
+use Rattle.slices.specs.Over.{over}
 use Rattle.assembler.specs.Writing.{IsReference}
 use Rattle.assembler.proofs.Words.{can-read, read-as-mark, read-as-reference, read-as-span}
 use Rattle.assembler.proofs.Writes.{asks-case, does-case, does-mark}

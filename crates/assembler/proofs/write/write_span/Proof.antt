@@ -8,7 +8,7 @@ use mathlib.Core.List.{[]}
 use lib.ListN.{length, length-set}
 use lib.Seq.{slice, slice-empty, length-slice}
 use denote.Ref.{now}
-use Rattle.store.specs.Calls.{over}
+use Rattle.slices.specs.Over.{over}
 use Rattle.emission.proofs.Rows.{over-nothing}
 use Rattle.assembler.proofs.Writes.{span-step}
 use Rattle.assembler.proofs.write.write_span.Statement.{statement}

@@ -5,7 +5,7 @@ use native.Mathlib.Omega.{arith}
 use Prim.Native.Nat.{ℕ}
 use denote.Ref.{now}
 use Rattle.units.specs.Numbers.{bigEndian}
-use Rattle.store.specs.Calls.{over}
+use Rattle.slices.specs.Over.{over}
 use Rattle.assembler.proofs.Writes.{digits-none}
 use borrow.Author.Needs.{needs}
 use Rattle.assembler.proofs.write.write_value.Statement.{statement}

@@ -2,7 +2,7 @@
 -- Assumes nothing.
 use Rattle.sadrokki.proofs.Ways.{digits-done}
 use Rattle.emission.proofs.Rows.{over-digit}
-use Rattle.store.specs.Calls.{over}
+use Rattle.slices.specs.Over.{over}
 use Rattle.units.specs.Numbers.{bigEndian}
 use lib.ListN.{length, length-set}
 use native.Mathlib.Nat.{mod-lt}

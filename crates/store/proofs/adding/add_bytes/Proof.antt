@@ -14,7 +14,8 @@ use Rattle.records.specs.Sections.{Section}
 use Rattle.records.specs.Damage.{lastSoundness}
 use Rattle.records.specs.declared.damage.Soundness.the-variants.{Sound}
 use Rattle.records.proofs.Damages.{good-words}
-use Rattle.store.specs.Calls.{over, recordWords, joins, bytesPass}
+use Rattle.store.specs.Calls.{recordWords, joins, bytesPass}
+use Rattle.slices.specs.Over.{over}
 use Rattle.store.specs.Adding.{lastKindIs, bytesSection}
 use Rattle.store.proofs.Parts.{left-fits, kind-some}
 use Rattle.store.proofs.Adds.{add-damaged, add-bytes-full, add-sections-full, sound-counts, pass-is, joins-is, bytes-joined, bytes-appended}

@@ -10,7 +10,7 @@ use native.Mathlib.Omega.{arith}
 use Prim.Native.Nat.{suc, _+_, _-_, _≤_}
 use mathlib.Core.List.{List}
 use lib.ListN.{length, drop, set, length-set, replicate}
-use Rattle.store.specs.Calls.{over}
+use Rattle.slices.specs.Over.{over}
 use Rattle.store.proofs.Parts.{over-word, opcode-before}
 use Rattle.store.proofs.minimal.push_bytes.Statement.{statement}
 use Rattle.store.proofs.minimal.push_bytes.Tie as tie

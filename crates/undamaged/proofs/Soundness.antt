@@ -1,6 +1,6 @@
 -- The whole test and a building call's test as propositions: an undamaged store is one of plain facts, and `Damaged i` means that
 -- section i is the first that breaks a rule (or that a count is bad). Assumes nothing.
-use Prim.Native.Nat.{ℕ, zero, suc, _*_, _-_, _≤_, _<_}
+use Prim.Native.Nat.{ℕ, zero, suc, _*_, _≤_, _<_, _-_}
 use native.Mathlib.Nat.{suc-inj, suc-ne-zero, le-refl, le-of-eq}
 use native.Mathlib.Omega.{arith}
 use mathlib.Core.Path.{_≡_, refl, sym, ap, _∙_, subst}
@@ -15,10 +15,11 @@ use Rattle.records.specs.Store.{Store, maxBytes, maxSections, sectionWords, bad
 use Rattle.records.specs.Damage.{unreadable, isSpan, endBefore, spansEnd, breaksRule, firstBroken, badCount, brokenReply, wholeSoundness, lastBroken, badCountBuilding, lastSoundness}
 use Rattle.records.specs.declared.damage.Soundness.{Soundness}
 use Rattle.records.specs.declared.damage.Soundness.the-variants.{Sound, Damaged}
-use Rattle.store_view.specs.View.{Undamaged, Facts, IsLeast, FirstBreak, LastBreak}
-use Rattle.store_view.specs.Answers.{unsound}
-use Rattle.store_view.proofs.Tests.{and-false, false-and, cond-true, cond-false, and-false-left, or-iff}
-use Rattle.store_view.proofs.Least.{leastFrom-least, least-same}
+use Rattle.undamaged.specs.View.{Undamaged, Facts, FirstBreak, LastBreak}
+use Rattle.slices.specs.First.{IsLeast}
+use Rattle.undamaged.specs.View.{unsound}
+use Rattle.slices.proofs.Tests.{and-false, false-and, cond-true, cond-false, and-false-left, or-iff}
+use Rattle.slices.proofs.First.{leastFrom-least, least-same}
 
 -- ---- the last Ops or Data section
 

@@ -1,13 +1,14 @@
--- An undamaged store, and the same as plain facts; the least number that passes a test; section i as the first that breaks a rule.
+-- An undamaged store, and the same as plain facts; section i as the first that breaks a rule.
 -- Assumes nothing.
-use Prim.Native.Nat.{ℕ, _+_, _*_, _-_, _≤_, _<_}
 use mathlib.Core.Path.{_≡_}
+use Prim.Native.Nat.{ℕ, _*_, _≤_, _<_, _-_}
 use mathlib.Core.Bool.{Bool, true, false}
 use lib.ListN.{length}
 use Rattle.records.specs.Record.{readSection}
 use Rattle.records.specs.Store.{Store, maxBytes, maxSections, sectionWords}
 use Rattle.records.specs.Damage.{unreadable, isSpan, endBefore, breaksRule, wholeSoundness, lastBroken}
-use Rattle.records.specs.declared.damage.Soundness.the-variants.{Sound}
+use Rattle.records.specs.declared.damage.Soundness.{Soundness}
+use Rattle.records.specs.declared.damage.Soundness.the-variants.{Sound, Damaged}
 
 -- the whole test finds nothing
 abbrev pub Undamaged : ℕ → Store → Type 0
@@ -24,13 +25,6 @@ pub record Facts (w : ℕ) (st : Store) : Type 0 where
   pub starts : (i : ℕ) → i < st .sections → isSpan (sectionWords w st i .kind) ≡ true → sectionWords w st i .first ≡ endBefore w st i
   pub ends : endBefore w st (st .sections) ≡ st .storedBytes
 
--- m is the least of the k numbers from i on that a test holds of, i + k if there is none
-pub record IsLeast (test : ℕ → Bool) (k i m : ℕ) : Type 0 where
-  pub above : i ≤ m
-  pub within : m ≤ i + k
-  pub none : (j : ℕ) → i ≤ j → j < m → test j ≡ false
-  pub holds : m < i + k → test m ≡ true
-
 -- section i is the first that breaks a rule of the whole test
 abbrev pub FirstBreak : ℕ → Store → ℕ → Type 0
 FirstBreak w st i = (i < st .sections) × (breaksRule w st i ≡ true) × ((j : ℕ) → j < i → breaksRule w st j ≡ false)
@@ -38,3 +32,8 @@ FirstBreak w st i = (i < st .sections) × (breaksRule w st i ≡ true) × ((j : 
 -- there is a last section, a building call's test finds it broken, and it is i
 abbrev pub LastBreak : ℕ → Store → ℕ → Type 0
 LastBreak w st i = (0 < st .sections) × (lastBroken w st (st .sections - 1) ≡ true) × (i ≡ st .sections - 1)
+
+-- a test that found a section
+abbrev pub unsound : Soundness → Bool
+unsound Sound = false
+unsound (Damaged i) = true

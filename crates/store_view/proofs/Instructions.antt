@@ -5,18 +5,37 @@ use Prim.Native.Nat.{ℕ, suc, _+_, _^_, _≤_, _<_}
 use native.Mathlib.Nat.{lt-of-lt-of-le}
 use native.Mathlib.Decide.{ℕ-discrete}
 use native.Mathlib.Omega.{arith}
-use mathlib.Core.Path.{_≡_, sym, ap, _∙_}
+use mathlib.Core.Path.{_≡_, refl, sym, ap, _∙_}
 use mathlib.Core.Bool.{true}
 use mathlib.Core.Logic.{_≢_}
 use mathlib.Core.List.{List, [], _∷_, _++_, append-nil}
 use mathlib.Core.Option.{some}
 use lib.ListN.{length, getD}
+use borrow.Author.Tests.{ne-eqb}
 use Rattle.units.specs.Numbers.{number, bigEndian, leastBytes}
 use Rattle.units.proofs.BigEndian.{number-bigEndian, number-lt, length-bigEndian, pow256-mono, leastBytes-fits, leastBytes-le, leastBytes-iff}
-use Rattle.store.specs.Calls.{minimalPush, pushOp, swapOp, dupOp, exchangeOps}
+use Rattle.store.specs.Calls.{minimalPush, exchangeOps}
+use Rattle.evm.specs.Opcodes.{pushOp, swapOp, dupOp}
 use Rattle.evm.specs.YellowPaper.{maxStack, isPush, pushSize, instructionLength, codeByte, exchanged, step, run}
 use Rattle.evm.proofs.Steps.{pushSize-push, pushSize-le, instruction-dup, instruction-swap, instructionLength-above, step-dup, step-swap, run-one, length-exchanged, exchanged-first, exchanged-second, exchanged-other, exchanged-comm}
-use Rattle.instructions.proofs.Runs.{push-anywhere, pushed-number, run-three, exchangeOps-first, exchangeOps-second, exchangeOps-neither}
+use Rattle.instructions.proofs.Runs.{push-anywhere, pushed-number, run-three}
+
+-- ---- the bytes of an exchange
+
+-- the bytes of an exchange with the top
+exchangeOps-first : (m : ℕ) → exchangeOps 0 m ≡ swapOp m ∷ []
+unfolding exchangeOps
+exchangeOps-first m = refl
+
+-- the bytes of an exchange with the top, which is named second
+exchangeOps-second : (n : ℕ) → n ≢ 0 → exchangeOps n 0 ≡ swapOp n ∷ []
+unfolding exchangeOps
+exchangeOps-second n n0 = rw (ne-eqb n 0 n0)
+
+-- the bytes of an exchange without the top
+exchangeOps-neither : (n m : ℕ) → n ≢ 0 → m ≢ 0 → exchangeOps n m ≡ swapOp n ∷ swapOp m ∷ swapOp n ∷ []
+unfolding exchangeOps
+exchangeOps-neither n m n0 m0 = rw (ne-eqb n 0 n0, ne-eqb m 0 m0)
 
 -- ---- minimal pushes
 

@@ -4,8 +4,9 @@ use native.Mathlib.Nat.{add-sub-of-le}
 use mathlib.Core.Path.{_≡_, sym, ap, _∙_, subst}
 use mathlib.Core.List.{List, _++_, append-assoc}
 use lib.ListN.{length, getD, take, drop, length-append, length-drop, List·getD-append}
-use lib.Seq.{slice, length-take-le, take-at, drop-at, drop-append-le, getD-append-add}
-use Rattle.store.specs.Calls.{over}
+use lib.Seq.{paste, take-length, slice, length-take-le, take-at, drop-at, drop-append-le, getD-append-add}
+use borrow.Author.Tests.{le-leb, lt-leb}
+use Rattle.slices.specs.Over.{over, overIfRoom}
 
 module _ (old : List ℕ) (i : ℕ) (new : List ℕ) (fits : i ≤ length old) where
   -- up to the end of the new part
@@ -44,3 +45,16 @@ module _ (old : List ℕ) (i : ℕ) (new : List ℕ) (fits : i ≤ length old) w
   slice-over f h =
       ap (drop f) (ap (take (i + length new)) over-split ∙ take-at (take i old ++ new) (drop (i + length new) old) (i + length new) front-length)
       ∙ drop-append-le f (take i old) new (subst (λ (k : ℕ). f ≤ k) (sym (length-take-le i old fits)) h)
+
+-- a whole copy is the new bytes written over the old from `at` on
+pub paste-over : (d : List ℕ) (at : ℕ) (s : List ℕ) → paste d at s (length s) ≡ over d at s
+paste-over d at s = ap (λ (r : List ℕ). take at d ++ r ++ drop (at + length s) d) (take-length s) ∙ append-assoc (take at d) s (drop (at + length s) d)
+
+-- where there is room, and where there is none
+pub has-room : (old : List ℕ) (i : ℕ) (new : List ℕ) → i + length new ≤ length old → overIfRoom old i new ≡ over old i new
+unfolding overIfRoom
+has-room old i new h = rw (le-leb (i + length new) (length old) h)
+
+pub no-room : (old : List ℕ) (i : ℕ) (new : List ℕ) → length old < i + length new → overIfRoom old i new ≡ old
+unfolding overIfRoom
+no-room old i new h = rw (lt-leb (i + length new) (length old) h)

@@ -5,9 +5,8 @@ use native.Mathlib.Omega.{arith}
 use mathlib.Core.Path.{_≡_, refl, subst}
 use mathlib.Core.Bool.{Bool, true, false, cond}
 use mathlib.Core.Logic.{⊎-elim}
-use Rattle.records.specs.Damage.{leastFrom}
-use Rattle.store_view.specs.View.{IsLeast}
-use Rattle.store_view.proofs.Tests.{clash}
+use Rattle.slices.specs.First.{leastFrom, IsLeast}
+use Rattle.slices.proofs.Tests.{clash}
 
 -- the test holds of the first number
 first : (test : ℕ → Bool) (k i : ℕ) → test i ≡ true → IsLeast test (suc k) i i

@@ -1,0 +1,3 @@
+pub mod Soundness
+pub mod Reading
+pub mod Sections

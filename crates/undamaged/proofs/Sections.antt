@@ -1,0 +1,46 @@
+-- The list of sections of a store, and the ends of its Ops and Data sections. Assumes nothing.
+use Prim.Native.Nat.{ℕ, zero, suc, _+_, _≤_, _<_}
+use native.Mathlib.Nat.{add-zero, add-suc, suc-add, le-trans, le-of-eq, eq-or-lt-of-le}
+use native.Mathlib.Omega.{arith}
+use mathlib.Core.Path.{_≡_, sym, ap, _∙_, subst}
+use mathlib.Core.Bool.{true, false}
+use mathlib.Mathlib.Data.Bool.Basic.{dichotomy}
+use mathlib.Core.List.{List, [], _∷_, _++_}
+use mathlib.Core.Logic.{_⊎_, inl, inr}
+use Rattle.records.specs.Store.{Store, sectionWords}
+use Rattle.records.specs.Damage.{isSpan, endBefore}
+use Rattle.records.specs.Sections.{Section, decodeAt, decodeFrom}
+use Rattle.undamaged.specs.View.{Facts}
+use Rattle.slices.proofs.Tests.{cond-true, cond-false}
+use Rattle.undamaged.proofs.Reading.{view, span-ordered}
+
+-- one more section at the end
+pub decode-snoc : (w : ℕ) (st : Store) (k i : ℕ) → decodeFrom w st (suc k) i ≡ decodeFrom w st k i ++ (decodeAt w st (i + k) ∷ [])
+unfolding decodeFrom
+decode-snoc w st zero i = rw add-zero
+decode-snoc w st (suc k) i = ap (λ (l : List Section). decodeAt w st i ∷ l) (decode-snoc w st k (suc i) ∙ rw (suc-add, add-suc))
+
+-- in an undamaged store the ends never fall
+end-step : (w : ℕ) (st : Store) (i : ℕ) → Facts w st → i < st .sections → endBefore w st i ≤ endBefore w st (suc i)
+unfolding endBefore
+end-step w st i f l = go (dichotomy (isSpan (sectionWords w st i .kind)))
+  where
+    go : (isSpan (sectionWords w st i .kind) ≡ false) ⊎ (isSpan (sectionWords w st i .kind) ≡ true) → endBefore w st i ≤ endBefore w st (suc i)
+    go (inr s) =
+        let o : sectionWords w st i .first ≤ sectionWords w st i .second = span-ordered (view (sectionWords w st i)) (f .readable i l) s in
+        omega (arith, f .starts i l s, cond-true _ (sectionWords w st i .second) (endBefore w st i) s)
+    go (inl n) = le-of-eq (sym (cond-false _ _ _ n))
+
+-- over any distance
+pub end-mono : (w : ℕ) (st : Store) (i m : ℕ) → Facts w st → i ≤ m → m ≤ st .sections → endBefore w st i ≤ endBefore w st m
+end-mono w st i zero f l h = le-of-eq (ap (endBefore w st) (omega arith))
+end-mono w st i (suc m) f l h = go (eq-or-lt-of-le l) (λ a. end-mono w st i m f a (omega arith))
+  where
+    go : (i ≡ suc m) ⊎ (i < suc m) → (i ≤ m → endBefore w st i ≤ endBefore w st m) → endBefore w st i ≤ endBefore w st (suc m)
+    go (inl e) r = le-of-eq (ap (endBefore w st) e)
+    go (inr a) r = le-trans (r (omega arith)) (end-step w st m f h)
+
+-- so an Ops or Data section among the first m ends at or before the last end among them
+pub span-within : (w : ℕ) (st : Store) (i m : ℕ) → Facts w st → i < m → m ≤ st .sections → isSpan (sectionWords w st i .kind) ≡ true → sectionWords w st i .second ≤ endBefore w st m
+unfolding endBefore
+span-within w st i m f l h s = subst (λ (x : ℕ). x ≤ endBefore w st m) (cond-true _ _ (endBefore w st i) s) (end-mono w st (suc i) m f l h)

@@ -1,0 +1,13 @@
+-- Document 01, 'Replies': what a call answers, over what it gives where it accepts. Assumes nothing.
+use Prim.Native.Nat.{ℕ}
+use Rattle.units.specs.Replies.{refusalNumbers}
+use Rattle.units.specs.declared.reply.Refusal.{Refusal}
+
+pub data Reply (A : Type 0) : Type 0 where
+  accepted : A → Reply A
+  -- number, section, passes made
+  refused : ℕ → ℕ → ℕ → Reply A
+
+-- a refusal as a reply
+abbrev pub refusalReply : {A : Type 0} → Refusal → Reply A
+refusalReply r = refused (refusalNumbers r .number) (refusalNumbers r .section) (refusalNumbers r .passes)
