@@ -14,8 +14,8 @@ use Rattle.units.specs.declared.MarkReference.the-variants.{Direct, Delta}
 use Rattle.units.specs.declared.reply.Refusal.the-variants.{PlacedApart, TooNarrow, Backward}
 use Rattle.records.specs.Sections.{Section}
 use Rattle.slices.specs.First.{leastFrom}
-use Rattle.store.specs.Calls.{Call, push, pushMark, pushOpByte, pushData, pushReference}
-use Rattle.store.specs.Lists.{addedAfter, addedTo, runList}
+use Rattle.calls.specs.Calls.{Call, push, pushMark, pushOpByte, pushData, pushReference}
+use Rattle.calls.specs.Lists.{addedAfter, addedTo, runList}
 use Rattle.layout.specs.Passes.{entry, startFrom, start, walkFrom, pass, passes, settle}
 use Rattle.layout.specs.Conditions.{placed, shortAt, firstShort, unplacedAt, firstUnplaced, someBytes, apartAt, firstApart, backwardAt, firstBackward}
 use Rattle.layout.specs.Answer.{Answer, laidOut, refused, answer}

@@ -30,6 +30,10 @@ pub record Store : Type 0 where
 abbrev pub storeOf : Assembler → List ℕ → List ℕ → Store
 storeOf counts bytes words = record { bytes = bytes; words = words; storedBytes = counts .bytes; sections = counts .sections }
 
+-- a store's two counts
+abbrev pub countsOf : Store → Assembler
+countsOf st = record { bytes = st .storedBytes; sections = st .sections }
+
 -- 'counts to 0'
 abbrev pub emptyCounts : Assembler
 emptyCounts = record { bytes = 0; sections = 0 }

@@ -12,6 +12,7 @@ pub use record::SectionRead;
 pub use record::StoredSection;
 pub use record::read_section;
 pub use record::reference_words;
+pub use record::set_size_of;
 ghost use mathlib.Core.Path.{_≡_};
 ghost use Rattle.records.specs.Store.{emptyCounts};
 

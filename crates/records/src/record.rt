@@ -131,8 +131,8 @@ fn read_ref(mark_ref: MarkReference, size: u32, pushed: bool) -> SectionRead
     }))
 }
 
-// The set size that 0 (unsized) to 4 stand for.
-fn set_size_of(size: u32) -> SetSize
+// The set size that 0 (unsized) to 4 stand for; a larger number counts as 4.
+pub fn set_size_of(size: u32) -> SetSize
     ensures { λ r. ⌜ r ≡ setSizeOf size ⌝ }
 {
     match size {

@@ -7,9 +7,9 @@ use mathlib.Core.List.{List, [], _∷_, _++_, append-nil, map, map-append}
 use lib.ListN.{length, length-append}
 use lib.Seq.{slice, slice-empty}
 use Rattle.records.specs.Sections.{Section, ops, bytes}
-use Rattle.store.specs.Calls.{bytesOf}
-use Rattle.store.specs.Lists.{afterLast, addedTo}
-use Rattle.store_view.proofs.Added.{added-to-snoc}
+use Rattle.calls.specs.Calls.{bytesOf}
+use Rattle.calls.specs.Lists.{afterLast, addedTo}
+use Rattle.calls.proofs.Added.{added-to-snoc}
 use Rattle.rust_model.specs.Building.{Span, StoredAsmSection, Assembler, Ops, Data}
 use Rattle.rust_model.specs.Sections.{AsmSection, fromStored, iterSections}
 use Rattle.rust_model.specs.Sections as read

@@ -9,20 +9,20 @@ use mathlib.Core.List.{List, [], _∷_, _++_}
 use lib.ListN.{length, length-append, length-map}
 use lib.Dec.{ltb}
 use borrow.Author.Tests.{not-true, le-ltb}
-use Rattle.units.specs.Replies.{stored}
-use Rattle.records.specs.Store.{Store, wordsPerSection, maxSections}
+use Rattle.units.specs.Reply.{accepted}
+use Rattle.records.specs.Store.{Store, wordsPerSection, countsOf, maxSections}
 use Rattle.records.specs.Damage.{lastSoundness}
 use Rattle.records.specs.Sections.{Section, decode}
-use Rattle.store.specs.Calls.{Push, Call, push, clear, hasLargeMark, added, bytesOf, joins, joined, appended, withSection, bytesPass, noSectionLeft, sectionPasses, pushReply, pushAfter, callReply, callAfter, runReplies, runAfter, emptied}
-use Rattle.store.specs.Lists.{addedTo}
+use Rattle.calls.specs.Calls.{Push, Call, push, clear, hasLargeMark, added, bytesOf, joins, joined, appended, withSection, bytesPass, noSectionLeft, sectionPasses, pushReply, pushAfter, callReply, callAfter, runReplies, runAfter, emptied}
+use Rattle.calls.specs.Lists.{addedTo}
 use Rattle.undamaged.specs.View.{Undamaged}
-use Rattle.store_view.specs.Answers.{IsStored, EveryStored}
+use Rattle.calls.specs.Answers.{IsStored, EveryStored}
 use Rattle.undamaged.specs.View.{unsound}
 use Rattle.slices.proofs.Tests.{false-and, cond-case}
 use Rattle.undamaged.proofs.Soundness.{undamaged-iff, undamaged-last-sound}
-use Rattle.store_view.proofs.Added.{BytesRoom, added-apart}
-use Rattle.store_view.proofs.Refusals.{push-answers, stored-added}
-use Rattle.store_view.proofs.Calls.{large-same, call-kept, call-accepted, emptied-undamaged, emptied-decode}
+use Rattle.calls.proofs.Added.{BytesRoom, added-apart}
+use Rattle.calls.proofs.Refusals.{push-answers, accepted-added}
+use Rattle.calls.proofs.Calls.{large-same, call-kept, call-accepted, emptied-undamaged, emptied-decode}
 use Rattle.settling.proofs.Sections.{decode-count}
 use Rattle.rust_model.specs.Run.{done, Build}
 use Rattle.rust_model.specs.Building.{Assembler, empty, call, calls}
@@ -87,20 +87,20 @@ module _ (bs words : List ℕ) (st : Store) (a a′ : Assembler) (p : Push) (sam
       (le-ltb maxSections (st .sections + 1) (omega (arith, n, fits .sectionsLimit)), le-ltb (length (st .words)) (wordsPerSection * (st .sections + 1)) (omega (arith, n, fits .wordsFit, same .wordsLent))))
 
   -- so the call is stored
-  reply : pushReply wordsPerSection p st ≡ stored (withSection wordsPerSection (added p) st .storedBytes) (withSection wordsPerSection (added p) st .sections)
+  reply : pushReply wordsPerSection p st ≡ accepted (countsOf (withSection wordsPerSection (added p) st))
   reply =
       let sound : unsound (lastSoundness wordsPerSection st) ≡ false = ap unsound (undamaged-last-sound wordsPerSection st (same .undamaged)) in
-      push-answers wordsPerSection p st .stored-iff _ _ .1 ((q .depth, (q .word, (small, (sound, (not-bytes, (not-section, tt)))))), refl, refl)
+      push-answers wordsPerSection p st .accepted-iff _ .1 ((q .depth, (q .word, (small, (sound, (not-bytes, (not-section, tt)))))), refl)
 
   -- and the stores are the same afterwards
   same-after : Same bs words (pushAfter wordsPerSection p st) a′
   same-after =
-      let accepted = call-accepted wordsPerSection (push p) st _ _ (omega arith) (same .undamaged) reply in
+      let accepted = call-accepted wordsPerSection (push p) st _ (omega arith) (same .undamaged) reply in
       let slices = call-kept wordsPerSection (push p) st (omega arith) in
       record {
         undamaged = accepted .undamaged;
         decoded = accepted .list ∙ ap (λ (l : List Section). addedTo l (added p)) (same .decoded) ∙ sym (q .adds .list);
-        count = ap (λ (x : Store). x .storedBytes) (stored-added wordsPerSection p st _ _ reply) ∙ with-bytes wordsPerSection (added p) st ∙ bytes-after;
+        count = ap (λ (x : Store). x .storedBytes) (accepted-added wordsPerSection p st _ reply) ∙ with-bytes wordsPerSection (added p) st ∙ bytes-after;
         bytesLent = slices .bytesLength ∙ same .bytesLent;
         wordsLent = slices .wordsLength ∙ same .wordsLent;
         kept = q .adds .kept;

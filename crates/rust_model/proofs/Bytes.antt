@@ -7,7 +7,7 @@ use lib.ListN.{length}
 use lib.Dec.{eqb}
 use borrow.Author.Tests.{eqb-true}
 use Rattle.records.specs.Sections.{Section, mark, ops, bytes, reference}
-use Rattle.store.specs.Lists.{addedAfter, addedTo}
+use Rattle.calls.specs.Lists.{addedAfter, addedTo}
 use Rattle.rust_model.specs.Run.{Run, done, panic, andThen, Build, debug, release, lenIdx, pushed}
 use Rattle.rust_model.specs.Building.{Span, StoredAsmSection, Ops, Data, Assembler, Last, extendOps, newOps, opByteAfter, opByte, opBytes, longerData, extendData, newData, dataAfter, pushedData}
 use Rattle.rust_model.specs.Sections.{fromStored}

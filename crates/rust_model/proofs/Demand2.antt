@@ -1,7 +1,7 @@
 -- Demand 2, proved. Assumes nothing.
 use mathlib.Core.List.{List}
 use Prim.Native.Nat.{ℕ}
-use Rattle.store.specs.Calls.{Call}
+use Rattle.calls.specs.Calls.{Call}
 use Rattle.rust_model.specs.Run.{Build}
 use Rattle.rust_model.specs.Building.{Assembler}
 use Rattle.rust_model.specs.Demand2.{Builds, built, Demand2}

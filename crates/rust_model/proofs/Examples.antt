@@ -16,7 +16,7 @@ use Rattle.units.specs.declared.MarkReference.the-variants.{Delta}
 use Rattle.records.specs.Store.{maxBytes, maxSections, wordsPerSection}
 use Rattle.records.specs.Sections.{Section}
 use Rattle.slices.specs.First.{leastFrom}
-use Rattle.store.specs.Calls.{Call, push, clear, hasLargeMark, pushReference}
+use Rattle.calls.specs.Calls.{Call, push, clear, hasLargeMark, pushReference}
 use Rattle.slices.specs.Over.{over}
 use Rattle.units.specs.Replies.{tooNarrow}
 use Rattle.layout.specs.Passes.{entry}

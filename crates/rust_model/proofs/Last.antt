@@ -3,8 +3,8 @@ use Prim.Native.Nat.{ℕ}
 use mathlib.Core.Path.{_≡_, refl, sym, ap, _∙_}
 use mathlib.Core.List.{List, [], _∷_, _++_, append-assoc}
 use Rattle.records.specs.Sections.{Section}
-use Rattle.store.specs.Lists.{afterLast, addedAfter, addedTo}
-use Rattle.store_view.proofs.Added.{added-to-snoc}
+use Rattle.calls.specs.Lists.{afterLast, addedAfter, addedTo}
+use Rattle.calls.proofs.Added.{added-to-snoc}
 use Rattle.rust_model.specs.Building.{Span, StoredAsmSection, Mark, Ops, Data, DirectMarkRef, UnsizedPushedDeltaRef, Size1PushedDeltaRef, Size2PushedDeltaRef, Size3PushedDeltaRef, Size4PushedDeltaRef, UnsizedRawDeltaRef, Size1RawDeltaRef, Size2RawDeltaRef, Size3RawDeltaRef, Size4RawDeltaRef, Last, lastOps, lastData, other, alone, behind, lastOf, lastMut}
 use Rattle.rust_model.specs.Sections.{fromStored}
 use Rattle.rust_model.specs.Demand2.{seen}

@@ -10,7 +10,7 @@ use lib.ListN.{take}
 use borrow.Author.Tests.{eq-eqb, ne-eqb, le-leb}
 use Rattle.units.specs.Numbers.{bigEndian, leastBytes}
 use Rattle.units.proofs.BigEndian.{leastBytes-zero, leastBytes-suc}
-use Rattle.store.specs.Calls.{minimalPush}
+use Rattle.calls.specs.Calls.{minimalPush}
 use Rattle.evm.specs.Opcodes as evm
 use Rattle.rust_model.specs.Run.{done}
 use Rattle.rust_model.specs.Building.{Assembler, opByte, opBytes, bits, leadingZeros, leBytes, pushSize, pushOp, minimal}

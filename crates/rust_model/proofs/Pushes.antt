@@ -18,9 +18,9 @@ use Rattle.units.specs.declared.MarkReference.{MarkReference}
 use Rattle.units.specs.declared.MarkReference.the-variants.{Direct, Delta}
 use Rattle.units.specs.declared.AsmReference.{AsmReference}
 use Rattle.records.specs.Sections.{Section, mark, ops, bytes, reference}
-use Rattle.store.specs.Calls.{Push, pushMark, pushOpByte, pushSwap, pushDup, pushExchange, pushMinimalU256, pushMinimalU64, pushMinimalU32, pushData, pushReference, hasBadDepth, hasBadWord, exchangeOps, minimalPush, added}
+use Rattle.calls.specs.Calls.{Push, pushMark, pushOpByte, pushSwap, pushDup, pushExchange, pushMinimalU256, pushMinimalU64, pushMinimalU32, pushData, pushReference, hasBadDepth, hasBadWord, exchangeOps, minimalPush, added}
 use Rattle.evm.specs.Opcodes as evm
-use Rattle.store.specs.Lists.{afterLast, addedAfter, addedTo}
+use Rattle.calls.specs.Lists.{afterLast, addedAfter, addedTo}
 use Rattle.rust_model.specs.Run.{done, andThen, Build}
 use Rattle.rust_model.specs.Building.{Assembler, Mark, opByte, opBytes, swapOp, dupOp, swap, dup, exchange, minimal, u256, storedRef, pushCall}
 use Rattle.rust_model.specs.Sections.{MarkRef, fromStored}

@@ -12,9 +12,9 @@ use lib.Seq.{slice}
 use Rattle.units.specs.Replies.{tooNarrow, unsettled, backward}
 use Rattle.records.specs.Store.{Store, storeOf, emptyCounts, wordsPerSection, maxBytes, maxSections}
 use Rattle.records.specs.Sections.{Section, mark, ops, bytes, reference, decode}
-use Rattle.store.specs.Calls.{Call, push, clear, hasLargeMark, runReplies, runAfter}
+use Rattle.calls.specs.Calls.{Call, push, clear, hasLargeMark, runReplies, runAfter}
 use Rattle.slices.specs.Over.{over}
-use Rattle.store_view.specs.Answers.{EveryStored}
+use Rattle.calls.specs.Answers.{EveryStored}
 use Rattle.layout.specs.Passes.{entry}
 use Rattle.layout.specs.Conditions.{Never, placed, shortAt, unplacedAt, apartAt}
 use Rattle.assembler.specs.Assemble.{Outcome, written, refused, assembly}

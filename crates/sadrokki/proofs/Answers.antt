@@ -16,7 +16,7 @@ use Rattle.units.specs.Replies.{Reply}
 use Rattle.records.specs.declared.Assembler.{Assembler}
 use Rattle.records.specs.Record.{setSizeOf}
 use Rattle.records.specs.Store.{storeOf, wordsPerSection}
-use Rattle.store.specs.Calls.{Push, pushReply, pushAfter}
+use Rattle.calls.specs.Calls.{Push, pushReply, pushAfter}
 use Rattle.slices.specs.Over.{over}
 use Rattle.assembler.specs.Assemble as assembling
 use Rattle.assembler.specs.Assemble.{Outcome, assembly}

@@ -21,7 +21,7 @@ use Rattle.records.specs.Sections.{Section, mark, ops, bytes, reference, decode
 use Rattle.records.specs.Damage.{wholeSoundness, badCount, badCountBuilding, lastSoundness}
 use Rattle.records.specs.declared.damage.Soundness.{Soundness}
 use Rattle.records.specs.declared.damage.Soundness.the-variants.{Sound, Damaged}
-use Rattle.store.specs.Calls.{Push, hasBadDepth, hasBadWord, hasLargeMark, added, joins, joined, appended, withSection, bytesPass, bytesOf, noSectionLeft, sectionPasses, roomReply, soundReply, addReply, pushReply}
+use Rattle.calls.specs.Calls.{Push, hasBadDepth, hasBadWord, hasLargeMark, added, joins, joined, appended, withSection, bytesPass, bytesOf, noSectionLeft, sectionPasses, roomReply, soundReply, addReply, pushReply}
 use Rattle.store.proofs.Adds.{sound-counts}
 use Rattle.store.proofs.Parts.{left-fits}
 use Rattle.undamaged.specs.View.{Undamaged, Facts, FirstBreak, LastBreak}

@@ -14,7 +14,7 @@ use Rattle.units.specs.declared.SetSize.the-variants.{Unsized, Sized}
 use Rattle.records.specs.Record.{maxMark, sizeNumber, setSizeOf, pushedNumber, deltaKind, wordsOfRef, referenceWords}
 use Rattle.records.specs.declared.record.StoredSection.{StoredSection}
 use Rattle.records.specs.Store.{Store, wordsPerSection}
-use Rattle.store.specs.Calls.{pushMark, pushReference, namesLargeMark, pushReply, pushAfter, wordsOf}
+use Rattle.calls.specs.Calls.{pushMark, pushReference, namesLargeMark, pushReply, pushAfter, wordsOf}
 use Rattle.store.specs.Adding.{Alone, aloneMark, aloneReference, aloneSection, storedSection}
 use Rattle.sadrokki.specs.declared.form.Form.{Form}
 use Rattle.sadrokki.specs.declared.form.Form.the-variants.{Names, Nothing}

@@ -12,8 +12,8 @@ use Rattle.records.specs.declared.Assembler.{Assembler}
 use Rattle.records.specs.Store.{Store, maxBytes, maxSections, badCounts}
 use Rattle.records.specs.Damage.{badCount, wholeSoundness, badCountBuilding, lastSoundness}
 use Rattle.records.specs.declared.damage.Soundness.the-variants.{Damaged}
-use Rattle.store.specs.Calls.{Push, pushReply}
-use Rattle.store_view.proofs.Refusals.{push-answers}
+use Rattle.calls.specs.Calls.{Push, pushReply}
+use Rattle.calls.proofs.Refusals.{push-answers}
 use Rattle.assembler.specs.Assemble as assembly
 use Rattle.listing.specs.Answer as listing
 use Rattle.sadrokki.specs.Numbers.{packed, numberIn, midIn, lowIn, countsIn, storeIn, builtNumber, assembledNumber, listedNumber, Packs, BuiltPacks, AssembledPacks, ListedPacks, builtIn, assembledIn, listedIn}

@@ -20,7 +20,7 @@ use Rattle.records.specs.declared.record.AsmSection.the-variants.{Ops, Data}
 use Rattle.records.specs.declared.record.StoredSection.{StoredSection}
 use Rattle.records.specs.declared.damage.Soundness.the-variants.{Sound}
 use Rattle.records.proofs.Reading.{mark-read, span-read, direct-pushed, delta-read, section-mark, section-ops, section-data, section-direct, section-pushed-delta, section-raw-delta}
-use Rattle.store.specs.Calls.{Push, pushMark, pushReference, pushOpByte, pushData, hasBadDepth, hasBadWord, hasLargeMark, added, wordsOf, recordWords, minimalPush, bytesPass, joins, noSectionLeft, addReply, addAfter, pushReply, pushAfter}
+use Rattle.calls.specs.Calls.{Push, pushMark, pushReference, pushOpByte, pushData, hasBadDepth, hasBadWord, hasLargeMark, added, wordsOf, recordWords, minimalPush, bytesPass, joins, noSectionLeft, addReply, addAfter, pushReply, pushAfter}
 use Rattle.slices.specs.Over.{over}
 use Rattle.store.specs.Adding.{Alone, aloneMark, aloneReference, aloneSection, lastKindIs, storedSection}
 use Rattle.store.proofs.Adds.{Adds, add-joined, add-appended, alone-appended, push-adds, push-reply, push-after}

@@ -13,7 +13,7 @@ use Rattle.units.specs.Reference.{leastSize, sizeFor}
 use Rattle.units.specs.Replies.{tooNarrow}
 use Rattle.records.specs.Record.{setSizeOf}
 use Rattle.records.specs.Store.{Store}
-use Rattle.store.specs.Calls.{pushReference, pushReply, pushAfter}
+use Rattle.calls.specs.Calls.{pushReference, pushReply, pushAfter}
 use Rattle.sadrokki.specs.declared.form.Form.{Form}
 use Rattle.sadrokki.specs.declared.form.Form.the-variants.{Names, Nothing}
 use Rattle.sadrokki.specs.Numbers.{packed, namesNothing, builtNumber}

@@ -10,7 +10,7 @@ use Rattle.records.specs.Record.{opsKind}
 use Rattle.records.specs.Store.{Store, maxBytes, maxSections, sectionWords}
 use Rattle.records.specs.Damage.{brokenLast}
 use Rattle.records.specs.declared.record.StoredSection.{StoredSection}
-use Rattle.store.specs.Calls.{Push, pushMark, pushReference}
+use Rattle.calls.specs.Calls.{Push, pushMark, pushReference}
 use Rattle.store.specs.Adding.{Alone, aloneMark, aloneReference, lastKindIs}
 
 -- one section more is taken, after a last one

@@ -25,7 +25,7 @@ ghost use Rattle.units.specs.Replies.{stored};
 ghost use Rattle.units.specs.declared.AsmReference.{AsmReference};
 ghost use Rattle.records.specs.Record.{maxMark, referenceWords};
 ghost use Rattle.records.specs.Store.{wordsPerSection, emptyCounts};
-ghost use Rattle.store.specs.Calls.{pushMark, pushOpByte, pushSwap, pushDup, pushExchange, pushMinimalU256, pushMinimalU64, pushMinimalU32, pushData, clear, callReply, pushReply, pushAfter, wordsOf};
+ghost use Rattle.calls.specs.Calls.{pushMark, pushOpByte, pushSwap, pushDup, pushExchange, pushMinimalU256, pushMinimalU64, pushMinimalU32, pushData, clear, callReply, pushReply, pushAfter, wordsOf};
 ghost use Rattle.store.specs.Adding.{Alone, aloneSection, storedSection};
 ghost use Rattle.sadrokki.specs.Numbers.{storeIn, builtNumber};
 ghost use Rattle.sadrokki.specs.Short.{Begins, aloneCall};

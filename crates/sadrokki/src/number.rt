@@ -7,7 +7,7 @@ use units::Refusal;
 ghost use mathlib.Core.Path.{_≡_};
 ghost use Prim.Native.Nat.{_<_, _^_};
 ghost use Rattle.units.specs.Replies.{refusalNumbers};
-ghost use Rattle.store.specs.Calls.{builtReply};
+ghost use Rattle.store.specs.Built.{builtReply};
 ghost use Rattle.assembler.specs.Assemble.{assembledReply};
 ghost use Rattle.listing.specs.Answer.{listedReply};
 ghost use Rattle.sadrokki.specs.Numbers.{packed, countsIn, builtNumber, assembledNumber, listedNumber, BuiltPacks, AssembledPacks, ListedPacks};

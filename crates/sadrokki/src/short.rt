@@ -10,7 +10,7 @@ ghost use Rattle.units.specs.Numbers.{bigEndian, leastBytes};
 ghost use Rattle.records.specs.Record.{maxMark, readSection};
 ghost use Rattle.records.specs.Store.{maxSections, wordsPerSection, wordsAt};
 ghost use Rattle.records.specs.Damage.{unreadable, brokenLast};
-ghost use Rattle.store.specs.Calls.{recordWords, minimalPush};
+ghost use Rattle.calls.specs.Calls.{recordWords, minimalPush};
 ghost use Rattle.slices.specs.Over.{over};
 ghost use Rattle.store.specs.Adding.{storedSection};
 ghost use Rattle.sadrokki.specs.Numbers.{storeIn};

@@ -16,7 +16,7 @@ use Rattle.records.specs.Sections.{Section, ops, bytes}
 use Rattle.records.specs.declared.damage.Soundness.{Soundness}
 use Rattle.records.specs.declared.damage.Soundness.the-variants.{Sound, Damaged}
 use Rattle.records.specs.declared.record.StoredSection.{StoredSection}
-use Rattle.store.specs.Calls.{Push, hasBadDepth, hasBadWord, hasLargeMark, added, bytesOf, wordsOf, recordWords, joins, joined, appended, withSection, bytesPass, noSectionLeft, sectionPasses, roomReply, addReply, pushReply, addAfter, pushAfter}
+use Rattle.calls.specs.Calls.{Push, hasBadDepth, hasBadWord, hasLargeMark, added, bytesOf, wordsOf, recordWords, joins, joined, appended, withSection, bytesPass, noSectionLeft, sectionPasses, roomReply, addReply, pushReply, addAfter, pushAfter}
 use Rattle.slices.specs.Over.{over}
 use Rattle.store.specs.Adding.{kindNumber, bytesSection, Alone, aloneMark, aloneReference, aloneSection, lastKindIs}
 use Rattle.store.specs.declared.adding.BytesKind.{BytesKind}

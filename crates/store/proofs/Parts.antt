@@ -21,7 +21,7 @@ use Rattle.units.proofs.BigEndian.{AllBytes, bigEndian-pad, leastBytes-leading,
 use Rattle.records.specs.Record.{maxMark}
 use Rattle.records.specs.Store.{maxBytes, maxSections}
 use Rattle.records.specs.declared.record.StoredSection.{StoredSection}
-use Rattle.store.specs.Calls.{pushSwap, pushExchange, hasBadDepth, namesLargeMark, exchangeOps, minimalPush, recordWords, noSectionLeft}
+use Rattle.calls.specs.Calls.{pushSwap, pushExchange, hasBadDepth, namesLargeMark, exchangeOps, minimalPush, recordWords, noSectionLeft}
 use Rattle.slices.specs.Over.{over}
 use Rattle.evm.specs.Opcodes.{swapOp, pushOp}
 use Rattle.records.specs.Sections.{ops}

@@ -11,7 +11,8 @@ ghost use Prim.Native.Nat.{_+_, _*_, _-_, _≤_, _<_};
 ghost use lib.ListN.{length, set};
 ghost use Rattle.records.specs.Store.{storeOf, wordsPerSection};
 ghost use Rattle.records.specs.Sections.{ops};
-ghost use Rattle.store.specs.Calls.{builtReply, wordsOf, recordWords, bytesOver, noSectionLeft, addReply, addAfter};
+ghost use Rattle.calls.specs.Calls.{wordsOf, recordWords, bytesOver, noSectionLeft, addReply, addAfter};
+ghost use Rattle.store.specs.Built.{builtReply};
 ghost use Rattle.slices.specs.Over.{over};
 ghost use Rattle.store.specs.Adding.{kindNumber, bytesSection, Alone, aloneSection, storedSection, lastKindIs};
 

@@ -19,7 +19,8 @@ use units::Refusal;
 ghost use mathlib.Core.Path.{_≡_};
 ghost use Prim.Native.Nat.{_≤_, _+_};
 ghost use Rattle.records.specs.Store.{storeOf, wordsPerSection};
-ghost use Rattle.store.specs.Calls.{builtReply, namesLargeMark, pushMark, pushOpByte, pushSwap, pushDup, pushExchange, pushData, pushReference, pushReply, pushAfter};
+ghost use Rattle.calls.specs.Calls.{namesLargeMark, pushMark, pushOpByte, pushSwap, pushDup, pushExchange, pushData, pushReference, pushReply, pushAfter};
+ghost use Rattle.store.specs.Built.{builtReply};
 ghost use Rattle.evm.specs.Opcodes.{swapOp};
 
 // What a building call answers: the store's counts after it, or a refusal with nothing changed.

@@ -13,7 +13,8 @@ ghost use lib.ListN.{length, drop};
 ghost use Rattle.units.specs.Numbers.{number, bigEndian};
 ghost use Rattle.records.specs.Store.{storeOf, wordsPerSection};
 ghost use Rattle.records.specs.Sections.{ops};
-ghost use Rattle.store.specs.Calls.{builtReply, minimalPush, pushMinimalU256, pushMinimalU64, pushMinimalU32, addReply, addAfter, pushReply, pushAfter};
+ghost use Rattle.calls.specs.Calls.{minimalPush, pushMinimalU256, pushMinimalU64, pushMinimalU32, addReply, addAfter, pushReply, pushAfter};
+ghost use Rattle.store.specs.Built.{builtReply};
 ghost use Rattle.evm.specs.Opcodes.{pushOp};
 ghost use Rattle.store.specs.Adding.{LeadingZeros};
 

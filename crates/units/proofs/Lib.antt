@@ -1,3 +1,4 @@
 pub mod BigEndian
 pub mod Held
 pub mod Widths
+pub mod Refusals

@@ -1,15 +1,9 @@
--- Document 01, 'Replies': what is answered, in the paper's numbers; and the number, section and passes of each refusal.
+-- Document 01, 'Replies': the number, section and passes of each refusal.
 -- Contracts of the calls speak of an answer through these definitions. Assumes nothing.
 use Prim.Native.Nat.{ℕ}
 use Rattle.units.specs.declared.reply.RefusalNumbers.{RefusalNumbers}
 use Rattle.units.specs.declared.reply.Refusal.{Refusal}
 use Rattle.units.specs.declared.reply.Refusal.the-variants.{BadDepth, BadWord, LargeMark, BytesFull, SectionsFull, Damaged, ShortTable, Unplaced, PlacedApart, TooNarrow, Unsettled, Backward, ResultFull, ListingFull}
-
-pub data Reply : Type 0 where
-  -- a building call was accepted: the counts of stored bytes and of sections after it
-  stored : ℕ → ℕ → Reply
-  -- number, section, passes made
-  refused : ℕ → ℕ → ℕ → Reply
 
 -- the numbers of the table of replies
 abbrev pub badDepth : ℕ
@@ -77,7 +71,3 @@ refusalNumbers Unsettled = numbersAt unsettled 0 maxPasses
 refusalNumbers (Backward i k) = numbersAt backward i k
 refusalNumbers (ResultFull k) = numbersAt resultFull 0 k
 refusalNumbers ListingFull = numbersAt listingFull 0 0
-
--- a refusal as a reply
-abbrev pub refusalReply : Refusal → Reply
-refusalReply r = refused (refusalNumbers r .number) (refusalNumbers r .section) (refusalNumbers r .passes)

@@ -8,7 +8,7 @@ use denote.Ref.{now}
 use Rattle.records.specs.Store.{storeOf, wordsPerSection}
 use Rattle.records.specs.Sections.{ops, bytes}
 use mathlib.Core.List.{List, [], _∷_}
-use Rattle.store.specs.Calls.{pushData}
+use Rattle.calls.specs.Calls.{pushData}
 use Rattle.store.proofs.Adds.{push-adds}
 use Rattle.store.proofs.push_data.Statement.{statement}
 use Rattle.store.proofs.push_data.Tie as tie

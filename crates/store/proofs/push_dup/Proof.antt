@@ -6,7 +6,7 @@ use Rattle.records.specs.Store.{storeOf, wordsPerSection}
 use Rattle.records.specs.Sections.{ops, bytes}
 use mathlib.Core.List.{[], _∷_}
 use borrow.Author.Tests.{lt-ltb, le-ltb}
-use Rattle.store.specs.Calls.{pushDup}
+use Rattle.calls.specs.Calls.{pushDup}
 use Rattle.evm.specs.Opcodes.{dupOp}
 use Rattle.store.proofs.Adds.{push-bad-depth, push-adds}
 use borrow.Author.Needs.{needs}

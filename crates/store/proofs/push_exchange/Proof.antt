@@ -9,7 +9,7 @@ use Rattle.records.specs.Store.{storeOf, wordsPerSection}
 use native.Mathlib.Omega.{arith}
 use Rattle.records.specs.Sections.{ops, bytes}
 use mathlib.Core.List.{List, [], _∷_}
-use Rattle.store.specs.Calls.{pushExchange}
+use Rattle.calls.specs.Calls.{pushExchange}
 use Rattle.store.proofs.Adds.{push-bad-depth, push-adds}
 use Rattle.store.proofs.Parts.{exchange-same, exchange-first, exchange-second, exchange-good, exchange-zero-first, exchange-zero-second, exchange-neither}
 use Rattle.store.proofs.push_exchange.Statement.{statement}

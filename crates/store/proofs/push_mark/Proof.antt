@@ -7,7 +7,7 @@ use Prim.Native.Nat.{ℕ}
 use denote.Ref.{now}
 use Rattle.records.specs.Store.{storeOf, wordsPerSection}
 use borrow.Author.Tests.{lt-ltb, le-ltb}
-use Rattle.store.specs.Calls.{pushMark}
+use Rattle.calls.specs.Calls.{pushMark}
 use Rattle.store.specs.Adding.{aloneMark}
 use Rattle.store.proofs.Adds.{push-large-mark, push-reply, push-after}
 use Rattle.records.specs.Store.{Store}

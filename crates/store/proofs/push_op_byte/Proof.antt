@@ -5,7 +5,7 @@ use denote.Ref.{now}
 use Rattle.records.specs.Store.{storeOf, wordsPerSection}
 use Rattle.records.specs.Sections.{ops, bytes}
 use mathlib.Core.List.{[], _∷_}
-use Rattle.store.specs.Calls.{pushOpByte}
+use Rattle.calls.specs.Calls.{pushOpByte}
 use Rattle.store.proofs.Adds.{push-adds}
 use borrow.Author.Needs.{needs}
 use Rattle.store.proofs.push_op_byte.Statement.{statement}

@@ -6,7 +6,7 @@ use mathlib.Core.Path.{refl, ap}
 use Prim.Native.Nat.{ℕ}
 use denote.Ref.{now}
 use Rattle.records.specs.Store.{storeOf, wordsPerSection}
-use Rattle.store.specs.Calls.{pushReference}
+use Rattle.calls.specs.Calls.{pushReference}
 use Rattle.store.specs.Adding.{aloneReference}
 use Rattle.store.proofs.Adds.{push-large-mark, push-reply, push-after}
 use Rattle.records.specs.Store.{Store}

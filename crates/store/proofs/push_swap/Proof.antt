@@ -7,7 +7,7 @@ use Rattle.records.specs.Store.{storeOf, wordsPerSection}
 use native.Mathlib.Omega.{arith}
 use Rattle.records.specs.Sections.{ops, bytes}
 use mathlib.Core.List.{[], _∷_}
-use Rattle.store.specs.Calls.{pushSwap}
+use Rattle.calls.specs.Calls.{pushSwap}
 use Rattle.store.proofs.Adds.{push-bad-depth, push-adds}
 use Rattle.store.proofs.Parts.{swap-zero, swap-deep, swap-good}
 use borrow.Author.Needs.{needs}

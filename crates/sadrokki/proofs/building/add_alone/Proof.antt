@@ -4,7 +4,7 @@ use Rattle.sadrokki.proofs.References.{alone-mark, alone-reference}
 use Rattle.sadrokki.proofs.Answers.{built-packs, built-words}
 use Rattle.sadrokki.specs.Numbers.{storeIn, builtNumber}
 use Rattle.records.specs.Store.{wordsPerSection}
-use Rattle.store.specs.Calls.{Push, pushMark, pushReference, pushReply, pushAfter}
+use Rattle.calls.specs.Calls.{Push, pushMark, pushReference, pushReply, pushAfter}
 use mathlib.Core.Path.{ap, _∙_}
 use denote.Ref.{now}
 use borrow.Author.Needs.{needs}

@@ -3,7 +3,7 @@
 use Rattle.sadrokki.proofs.Ways.{begins-op}
 use Prim.Native.Nat.{ℕ, _+_}
 use mathlib.Core.Path.{ap, _∙_}
-use Rattle.store.specs.Calls.{pushOpByte}
+use Rattle.calls.specs.Calls.{pushOpByte}
 use Rattle.sadrokki.proofs.Answers.{built-packs, built-both}
 use denote.Ref.{now}
 use native.Mathlib.Omega.{arith}

@@ -1,7 +1,7 @@
 -- Data extends the last section at once, or is what `push_data` answers.
 -- Assumes nothing.
 use Rattle.sadrokki.proofs.Ways.{extends-data}
-use Rattle.store.specs.Calls.{pushData}
+use Rattle.calls.specs.Calls.{pushData}
 use Rattle.sadrokki.proofs.Answers.{built-packs, built-both}
 use mathlib.Core.Path.{_∙_}
 use denote.Ref.{now}

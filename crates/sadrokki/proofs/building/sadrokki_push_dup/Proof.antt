@@ -1,7 +1,7 @@
 -- A depth that is one is one op byte; else what `push_dup` answers.
 -- Assumes nothing.
 use Rattle.sadrokki.proofs.Ways.{one-op}
-use Rattle.store.specs.Calls.{pushDup}
+use Rattle.calls.specs.Calls.{pushDup}
 use borrow.Author.Tests.{le-ltb}
 use Rattle.sadrokki.proofs.Answers.{built-packs, built-both}
 use mathlib.Core.Path.{refl}

@@ -3,7 +3,7 @@
 use Prim.Native.Nat.{_+_, _-_}
 use Rattle.sadrokki.proofs.Ways.{extends-ops}
 use Rattle.store.proofs.Parts.{exchange-good, exchange-neither}
-use Rattle.store.specs.Calls.{pushExchange}
+use Rattle.calls.specs.Calls.{pushExchange}
 use Rattle.sadrokki.proofs.Answers.{built-packs, built-both}
 use native.Mathlib.Omega.{arith}
 use mathlib.Core.Path.{_≡_, refl, _∙_}

@@ -2,7 +2,7 @@
 -- Assumes nothing.
 use borrow.Author.Needs.{needs}
 use denote.Ref.{now}
-use Rattle.store.specs.Calls.{pushMinimalU256}
+use Rattle.calls.specs.Calls.{pushMinimalU256}
 use Rattle.sadrokki.proofs.Answers.{built-packs, built-both}
 use Rattle.sadrokki.proofs.building.sadrokki_push_minimal_u256.Statement.{statement}
 use Rattle.sadrokki.proofs.building.sadrokki_push_minimal_u256.Tie as tie

@@ -2,7 +2,7 @@
 -- Assumes nothing.
 use Rattle.sadrokki.proofs.Ways.{extends-fewer, extends-ops, push-nine}
 use Rattle.sadrokki.specs.Numbers.{storeIn}
-use Rattle.store.specs.Calls.{pushMinimalU64, minimalPush}
+use Rattle.calls.specs.Calls.{pushMinimalU64, minimalPush}
 use lib.ListN.{length}
 use Rattle.sadrokki.proofs.Answers.{built-packs, built-both}
 use native.Mathlib.Omega.{arith}

@@ -3,7 +3,7 @@
 use Rattle.sadrokki.proofs.Ways.{one-op}
 use Rattle.store.proofs.Parts.{swap-good}
 use Rattle.records.specs.Sections.{ops}
-use Rattle.store.specs.Calls.{pushSwap}
+use Rattle.calls.specs.Calls.{pushSwap}
 use Rattle.evm.specs.Opcodes.{swapOp}
 use Prim.Native.Nat.{ℕ, _+_, _-_}
 use mathlib.Core.List.{[], _∷_}

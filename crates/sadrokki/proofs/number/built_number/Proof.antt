@@ -3,7 +3,7 @@
 use borrow.Author.Needs.{needs}
 use native.Mathlib.Omega.{arith}
 use mathlib.Core.Path.{ap, sym, _∙_, subst}
-use Rattle.store.specs.Calls.{builtReply}
+use Rattle.store.specs.Built.{builtReply}
 use Rattle.sadrokki.specs.Numbers.{BuiltPacks, builtNumber}
 use Rattle.sadrokki.proofs.number.built_number.Statement.{statement}
 use Rattle.sadrokki.proofs.number.built_number.Tie as tie

@@ -2,7 +2,7 @@
 -- Assumes nothing.
 use Rattle.sadrokki.proofs.Ways.{length-push, push-written}
 use Rattle.sadrokki.specs.Short.{endMoved}
-use Rattle.store.specs.Calls.{minimalPush}
+use Rattle.calls.specs.Calls.{minimalPush}
 use Rattle.records.specs.Store.{wordsPerSection}
 use lib.ListN.{length, length-set}
 use Prim.Native.Nat.{ℕ, _+_, _%_, _^_, _<_}

@@ -13,7 +13,7 @@ use lib.ListN.{length}
 use mathlib.Core.Bool.{Bool, not}
 use borrow.Author.Tests.{eq-eqb, ne-eqb}
 use Rattle.units.specs.Numbers.{number}
-use Rattle.store.specs.Calls.{pushMinimalU256, minimalPush}
+use Rattle.calls.specs.Calls.{pushMinimalU256, minimalPush}
 use Rattle.store.proofs.Adds.{push-bad-word, push-adds}
 use Rattle.store.proofs.minimal.push_minimal_u256.Statement.{statement}
 use Rattle.store.proofs.minimal.push_minimal_u256.Tie as tie

@@ -6,7 +6,7 @@ use mathlib.Core.Path.{refl, ap}
 use Prim.Native.Nat.{ℕ}
 use denote.Ref.{now}
 use Rattle.records.specs.Store.{storeOf, wordsPerSection}
-use Rattle.store.specs.Calls.{pushMinimalU32, pushMinimalU64, pushReply, pushAfter}
+use Rattle.calls.specs.Calls.{pushMinimalU32, pushMinimalU64, pushReply, pushAfter}
 use Rattle.store.proofs.minimal.push_minimal_u32.Statement.{statement}
 use Rattle.store.proofs.minimal.push_minimal_u32.Tie as tie
 

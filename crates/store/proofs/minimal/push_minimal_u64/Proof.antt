@@ -12,7 +12,7 @@ use Rattle.store.proofs.Parts.{word-fits, minimal-zero, minimal-one}
 use Rattle.units.specs.Numbers.{number}
 use Rattle.units.proofs.BigEndian.{number-bigEndian, length-bigEndian}
 use lib.ListN.{length}
-use Rattle.store.specs.Calls.{pushMinimalU64, minimalPush}
+use Rattle.calls.specs.Calls.{pushMinimalU64, minimalPush}
 use Rattle.store.proofs.Adds.{push-adds}
 use borrow.Author.Needs.{needs}
 use Rattle.store.proofs.minimal.push_minimal_u64.Statement.{statement}

@@ -14,7 +14,7 @@ use lib.ListN.{length, take, drop, getD, length-drop}
 use lib.Seq.{take-all}
 use Rattle.units.specs.Numbers.{number}
 use Rattle.units.proofs.BigEndian.{AllBytes}
-use Rattle.store.specs.Calls.{minimalPush}
+use Rattle.calls.specs.Calls.{minimalPush}
 use Rattle.store.proofs.Adds.{add-same}
 use Rattle.store.proofs.Parts.{minimal-of}
 use Rattle.store.proofs.minimal.push_word.Statement.{statement}

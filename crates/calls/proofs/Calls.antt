@@ -12,20 +12,21 @@ use lib.ListN.{length, drop, length-set}
 use lib.Seq.{drop-set-lt}
 use lib.Dec.{ltb}
 use borrow.Author.Tests.{ltb-true, ltb-false}
-use Rattle.units.specs.Replies.{Reply, stored, refused}
+use Rattle.units.specs.Reply.{accepted, refused}
+use Rattle.records.specs.declared.Assembler.{Assembler}
 use Rattle.records.specs.Store.{Store, maxSections}
 use Rattle.records.specs.Damage.{endBefore}
 use Rattle.records.specs.Sections.{Section, decodeFrom, decode}
-use Rattle.store.specs.Calls.{Push, pushMark, pushOpByte, pushSwap, pushDup, pushExchange, pushMinimalU256, pushMinimalU64, pushMinimalU32, pushData, pushReference, Call, push, clear, hasLargeMark, added, bytesOf, wordsOf, joins, recordWords, joined, appended, withSection, bytesPass, noSectionLeft, sectionPasses, pushReply, pushAfter, emptied, callReply, callAfter}
+use Rattle.calls.specs.Calls.{BuiltReply, Push, pushMark, pushOpByte, pushSwap, pushDup, pushExchange, pushMinimalU256, pushMinimalU64, pushMinimalU32, pushData, pushReference, Call, push, clear, hasLargeMark, added, bytesOf, wordsOf, joins, recordWords, joined, appended, withSection, bytesPass, noSectionLeft, sectionPasses, pushReply, pushAfter, emptied, callReply, callAfter}
 use Rattle.undamaged.specs.View.{Undamaged}
-use Rattle.store_view.specs.Answers.{Accepted, Kept}
+use Rattle.calls.specs.Answers.{Accepted, Kept}
 use Rattle.slices.proofs.Tests.{and-false, cond-true, cond-false}
 use Rattle.undamaged.proofs.Soundness.{undamaged-iff}
-use Rattle.store_view.proofs.Reading.{large}
+use Rattle.calls.proofs.Reading.{large}
 use Rattle.slices.proofs.Over.{drop-over, length-over}
-use Rattle.store_view.proofs.Grown.{row-below}
-use Rattle.store_view.proofs.Added.{BytesRoom, RowRoom, record-end, with-section}
-use Rattle.store_view.proofs.Refusals.{push-answers, refused-same, stored-added}
+use Rattle.calls.proofs.Grown.{row-below}
+use Rattle.calls.proofs.Added.{BytesRoom, RowRoom, record-end, with-section}
+use Rattle.calls.proofs.Refusals.{push-answers, refused-same, accepted-added}
 
 -- ---- what an accepted call had
 
@@ -101,11 +102,11 @@ kept-same w st = record { bytesLength = refl; wordsLength = refl; bytesPast = re
 push-kept : (w : ℕ) (p : Push) (st : Store) → 3 ≤ w → Kept w st (pushAfter w p st)
 push-kept w p st h = go (pushReply w p st) refl
   where
-    go : (r : Reply) → pushReply w p st ≡ r → Kept w st (pushAfter w p st)
-    go (stored b s) e =
-        let n = push-answers w p st .stored-iff b s .0 e .0 in
+    go : (r : BuiltReply) → pushReply w p st ≡ r → Kept w st (pushAfter w p st)
+    go (accepted a) e =
+        let n = push-answers w p st .accepted-iff a .0 e .0 in
         let room = bytes-room (added p) st (n .1 .1 .1 .1 .0) in
-        rw (stored-added w p st b s e) (kept-with w (added p) st h room (row-room w (added p) st (n .1 .1 .1 .1 .1 .0)))
+        rw (accepted-added w p st a e) (kept-with w (added p) st h room (row-room w (added p) st (n .1 .1 .1 .1 .1 .0)))
     go (refused n i k) e = rw (refused-same w p st n i k e) (kept-same w st)
 
 -- every call leaves the slices past the counts alone
@@ -136,30 +137,29 @@ unfolding decode decodeFrom
 emptied-decode w st = refl
 
 -- an accepted push on an undamaged store
-push-accepted : (w : ℕ) (p : Push) (st : Store) (b s : ℕ) → 3 ≤ w → Undamaged w st → pushReply w p st ≡ stored b s → Accepted w (push p) st b s
-push-accepted w p st b s h u e =
-    let q = push-answers w p st .stored-iff b s .0 e in
+push-accepted : (w : ℕ) (p : Push) (st : Store) (a : Assembler) → 3 ≤ w → Undamaged w st → pushReply w p st ≡ accepted a → Accepted w (push p) st a
+push-accepted w p st a h u e =
+    let q = push-answers w p st .accepted-iff a .0 e in
     let n = q .0 in
-    let a : pushAfter w p st ≡ withSection w (added p) st = stored-added w p st b s e in
+    let same : pushAfter w p st ≡ withSection w (added p) st = accepted-added w p st a e in
     let r = with-section w (added p) st h (undamaged-iff w st .0 u) (sym (large-same p) ∙ n .1 .1 .0) (bytes-room (added p) st (n .1 .1 .1 .1 .0)) (row-room w (added p) st (n .1 .1 .1 .1 .1 .0)) in
     record {
-      undamaged = rw a (undamaged-iff w (withSection w (added p) st) .1 (r .0));
-      list = rw a (r .1);
-      bytes = rw a (q .1);
-      sections = rw a (q .2);
+      undamaged = rw same (undamaged-iff w (withSection w (added p) st) .1 (r .0));
+      list = rw same (r .1);
+      answer = rw same (q .1);
     }
 
 -- an accepted call on an undamaged store leaves an undamaged one, with the list that `callList` says; its answer is the counts
-pub call-accepted : (w : ℕ) (c : Call) (st : Store) (b s : ℕ) → 3 ≤ w → Undamaged w st → callReply w c st ≡ stored b s → Accepted w c st b s
-call-accepted w (push p) st b s h u e = push-accepted w p st b s h u e
-call-accepted w clear st b s h u e =
-    record { undamaged = emptied-undamaged w st; list = emptied-decode w st; bytes = cc; sections = cc }
+pub call-accepted : (w : ℕ) (c : Call) (st : Store) (a : Assembler) → 3 ≤ w → Undamaged w st → callReply w c st ≡ accepted a → Accepted w c st a
+call-accepted w (push p) st a h u e = push-accepted w p st a h u e
+call-accepted w clear st a h u e =
+    record { undamaged = emptied-undamaged w st; list = emptied-decode w st; answer = cc }
 
 -- refused or not, a call on an undamaged store leaves an undamaged one
 pub call-undamaged : (w : ℕ) (c : Call) (st : Store) → 3 ≤ w → Undamaged w st → Undamaged w (callAfter w c st)
 call-undamaged w (push p) st h u = go (pushReply w p st) refl
   where
-    go : (r : Reply) → pushReply w p st ≡ r → Undamaged w (pushAfter w p st)
-    go (stored b s) e = push-accepted w p st b s h u e .undamaged
+    go : (r : BuiltReply) → pushReply w p st ≡ r → Undamaged w (pushAfter w p st)
+    go (accepted a) e = push-accepted w p st a h u e .undamaged
     go (refused n i k) e = rw (refused-same w p st n i k e) u
 call-undamaged w clear st h u = emptied-undamaged w st

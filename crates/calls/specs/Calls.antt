@@ -11,16 +11,16 @@ use Rattle.units.specs.declared.AsmReference.{AsmReference}
 use Rattle.units.specs.Numbers.{number, bigEndian, leastBytes}
 use Rattle.evm.specs.Opcodes.{swapOp, dupOp, pushOp}
 use Rattle.slices.specs.Over.{over}
-use Rattle.units.specs.Replies.{Reply, stored, refused, badDepth, badWord, largeMark, bytesFull, sectionsFull, damaged, refusalReply}
+use Rattle.units.specs.Replies.{badDepth, badWord, largeMark, bytesFull, sectionsFull, damaged}
+use Rattle.units.specs.Reply.{Reply, accepted, refused}
+use Rattle.records.specs.declared.Assembler.{Assembler}
 use Rattle.records.specs.declared.record.StoredSection.{StoredSection}
 use Rattle.records.specs.declared.damage.Soundness.{Soundness}
 use Rattle.records.specs.declared.damage.Soundness.the-variants.{Sound, Damaged}
 use Rattle.records.specs.Record.{maxMark, markKind, opsKind, dataKind, referenceWords}
-use Rattle.records.specs.Store.{Store, maxBytes, maxSections, sectionWords}
+use Rattle.records.specs.Store.{Store, maxBytes, maxSections, emptyCounts, countsOf, sectionWords}
 use Rattle.records.specs.Damage.{lastSoundness}
 use Rattle.records.specs.Sections.{Section, mark, ops, bytes, reference}
-use Rattle.store.specs.declared.Built.{Built}
-use Rattle.store.specs.declared.Built.the-variants.{Stored, Refused}
 
 -- the calls that add to a store
 pub data Push : Type 0 where
@@ -40,10 +40,9 @@ pub data Call : Type 0 where
   push : Push → Call
   clear : Call
 
--- what a building call answers, in document 01's numbers
-abbrev pub builtReply : Built → Reply
-builtReply (Stored counts) = stored (counts .bytes) (counts .sections)
-builtReply (Refused r) = refusalReply r
+-- what a building call answers: the store's counts after it, or a refusal
+abbrev pub BuiltReply : Type 0
+BuiltReply = Reply Assembler
 
 -- ---- refusals of the call's own numbers
 
@@ -188,21 +187,21 @@ unfoldable pub sectionPasses : ℕ → Section → Store → Bool
 sectionPasses w s st = not (joins w s st) && noSectionLeft w (st .sections) (st .words)
 
 -- 4, 5, or stored
-unfoldable pub roomReply : ℕ → Section → Store → Reply
+unfoldable pub roomReply : ℕ → Section → Store → BuiltReply
 roomReply w s st =
     cond (bytesPass s st) (refused bytesFull 0 0)
     (cond (sectionPasses w s st) (refused sectionsFull 0 0)
-    (stored (withSection w s st .storedBytes) (withSection w s st .sections)))
+    (accepted (countsOf (withSection w s st))))
 
 -- 6 at the section that the test found, or what follows
-abbrev pub soundReply : Soundness → Reply → Reply
+abbrev pub soundReply : Soundness → BuiltReply → BuiltReply
 soundReply (Damaged i) next = refused damaged i 0
 soundReply Sound next = next
 
-unfoldable pub addReply : ℕ → Section → Store → Reply
+unfoldable pub addReply : ℕ → Section → Store → BuiltReply
 addReply w s st = soundReply (lastSoundness w st) (roomReply w s st)
 
-unfoldable pub pushReply : ℕ → Push → Store → Reply
+unfoldable pub pushReply : ℕ → Push → Store → BuiltReply
 pushReply w p st =
     cond (hasBadDepth p) (refused badDepth 0 0)
     (cond (hasBadWord p) (refused badWord 0 0)
@@ -211,8 +210,8 @@ pushReply w p st =
 
 -- ---- the store afterwards: refused, it is as it was
 
-abbrev pub ifStored : Reply → Store → Store → Store
-ifStored (stored b s) new old = new
+abbrev pub ifStored : BuiltReply → Store → Store → Store
+ifStored (accepted counts) new old = new
 ifStored (refused n i k) new old = old
 
 unfoldable pub addAfter : ℕ → Section → Store → Store
@@ -226,16 +225,16 @@ pushAfter w p st = ifStored (pushReply w p st) (withSection w (added p) st) st
 abbrev pub emptied : Store → Store
 emptied st = record { bytes = st .bytes; words = st .words; storedBytes = 0; sections = 0 }
 
-abbrev pub callReply : ℕ → Call → Store → Reply
+abbrev pub callReply : ℕ → Call → Store → BuiltReply
 callReply w (push p) st = pushReply w p st
-callReply w clear st = stored 0 0
+callReply w clear st = accepted emptyCounts
 
 abbrev pub callAfter : ℕ → Call → Store → Store
 callAfter w (push p) st = pushAfter w p st
 callAfter w clear st = emptied st
 
 -- the answers to a list of calls, made one after another
-unfoldable pub runReplies : ℕ → List Call → Store → List Reply
+unfoldable pub runReplies : ℕ → List Call → Store → List BuiltReply
 runReplies w [] st = []
 runReplies w (c ∷ cs) st = callReply w c st ∷ runReplies w cs (callAfter w c st)
 

@@ -2,14 +2,15 @@
 use Prim.Native.Nat.{ℕ, _≤_}
 use mathlib.Core.Path.{_≡_, refl, ap, _∙_}
 use mathlib.Core.List.{List, [], _∷_}
-use Rattle.units.specs.Replies.{Reply, stored, refused}
+use Rattle.units.specs.Reply.{accepted, refused}
+use Rattle.records.specs.declared.Assembler.{Assembler}
 use Rattle.records.specs.Store.{Store}
 use Rattle.records.specs.Sections.{decode}
-use Rattle.store.specs.Calls.{Call, emptied, callReply, callAfter, runReplies, runAfter}
-use Rattle.store.specs.Lists.{runList}
+use Rattle.calls.specs.Calls.{BuiltReply, Call, emptied, callReply, callAfter, runReplies, runAfter}
+use Rattle.calls.specs.Lists.{runList}
 use Rattle.undamaged.specs.View.{Undamaged}
-use Rattle.store_view.specs.Answers.{IsStored, EveryStored}
-use Rattle.store_view.proofs.Calls.{emptied-undamaged, emptied-decode, call-accepted, call-undamaged}
+use Rattle.calls.specs.Answers.{IsStored, EveryStored}
+use Rattle.calls.proofs.Calls.{emptied-undamaged, emptied-decode, call-accepted, call-undamaged}
 
 -- refused or not, calls leave an undamaged store undamaged
 pub run-undamaged : (w : ℕ) (cs : List Call) (st : Store) → 3 ≤ w → Undamaged w st → Undamaged w (runAfter w cs st)
@@ -18,8 +19,8 @@ run-undamaged w [] st h u = u
 run-undamaged w (c ∷ cs) st h u = run-undamaged w cs (callAfter w c st) h (call-undamaged w c st h u)
 
 -- the counts that an accepted call answered
-counts-of : (r : Reply) → IsStored r → (b : ℕ) × (s : ℕ) × (r ≡ stored b s)
-counts-of (stored b s) t = (b, s, refl)
+counts-of : (r : BuiltReply) → IsStored r → (a : Assembler) × (r ≡ accepted a)
+counts-of (accepted a) t = (a, refl)
 counts-of (refused n i k) t = absurd t
 
 -- if every call is accepted, the list afterwards is the one that `runList` says
@@ -28,7 +29,7 @@ unfolding runReplies runAfter runList
 run-list w [] st h u t = refl
 run-list w (c ∷ cs) st h u t =
     let r = counts-of (callReply w c st) (t .0) in
-    let a = call-accepted w c st (r .0) (r .1) h u (r .2) in
+    let a = call-accepted w c st (r .0) h u (r .1) in
     run-list w cs (callAfter w c st) h (a .undamaged) (t .1) ∙ ap (runList cs) (a .list)
 
 -- from an emptied store the list is what the calls make of the empty one

@@ -18,16 +18,16 @@ use Rattle.records.specs.Record.{readSection}
 use Rattle.records.specs.Store.{Store, maxBytes, maxSections, sectionWords}
 use Rattle.records.specs.Damage.{unreadable, isSpan, endBefore}
 use Rattle.records.specs.Sections.{Section, sectionRead, decodeAt, decodeFrom, decode}
-use Rattle.store.specs.Calls.{bytesOf, wordsOf, extends, joins, recordWords, joined, appended, withSection}
+use Rattle.calls.specs.Calls.{bytesOf, wordsOf, extends, joins, recordWords, joined, appended, withSection}
 use Rattle.slices.specs.Over.{over}
-use Rattle.store.specs.Lists.{afterLast, addedAfter, addedTo}
+use Rattle.calls.specs.Lists.{afterLast, addedAfter, addedTo}
 use Rattle.undamaged.specs.View.{Facts}
 use Rattle.slices.proofs.Tests.{and-false, cond-true, cond-false}
 use Rattle.undamaged.proofs.Soundness.{last-end}
-use Rattle.store_view.proofs.Reading.{apart, extends-span, extended, large, read-back, words-start, words-end}
+use Rattle.calls.proofs.Reading.{apart, extends-span, extended, large, read-back, words-start, words-end}
 use Rattle.undamaged.proofs.Reading.{view, span-ordered}
 use Rattle.slices.proofs.Over.{take-over, length-over, getD-over, slice-over}
-use Rattle.store_view.proofs.Grown.{row-below, take-same, Grown, grown-facts, grown-decode}
+use Rattle.calls.proofs.Grown.{row-below, take-same, Grown, grown-facts, grown-decode}
 use Rattle.undamaged.proofs.Sections.{decode-snoc, end-mono}
 
 -- ---- the list

@@ -14,7 +14,7 @@ use lib.ListN.{length, getD}
 use borrow.Author.Tests.{ne-eqb}
 use Rattle.units.specs.Numbers.{number, bigEndian, leastBytes}
 use Rattle.units.proofs.BigEndian.{number-bigEndian, number-lt, length-bigEndian, pow256-mono, leastBytes-fits, leastBytes-le, leastBytes-iff}
-use Rattle.store.specs.Calls.{minimalPush, exchangeOps}
+use Rattle.calls.specs.Calls.{minimalPush, exchangeOps}
 use Rattle.evm.specs.Opcodes.{pushOp, swapOp, dupOp}
 use Rattle.evm.specs.YellowPaper.{maxStack, isPush, pushSize, instructionLength, codeByte, exchanged, step, run}
 use Rattle.evm.proofs.Steps.{pushSize-push, pushSize-le, instruction-dup, instruction-swap, instructionLength-above, step-dup, step-swap, run-one, length-exchanged, exchanged-first, exchanged-second, exchanged-other, exchanged-comm}

@@ -2,7 +2,7 @@
 use mathlib.Core.List.{List, [], _∷_, _++_}
 use Prim.Native.Nat.{ℕ}
 use Rattle.records.specs.Sections.{Section, mark, ops, bytes, reference}
-use Rattle.store.specs.Calls.{Call, push, clear, added}
+use Rattle.calls.specs.Calls.{Call, push, clear, added}
 
 -- op bytes after an Ops section whose bytes are bs extend it
 abbrev pub afterOps : List ℕ → Section → List Section

@@ -19,8 +19,8 @@ use Rattle.records.specs.declared.record.SectionRead.the-variants.{Read}
 use Rattle.records.specs.Record.{maxMark, opsKind, dataKind, readMark, readSection, wordsOfRef, referenceWords}
 use Rattle.records.specs.Damage.{unreadable, isSpan}
 use Rattle.records.specs.Sections.{Section, mark, ops, bytes, reference, sectionRead}
-use Rattle.store.specs.Calls.{namesLargeMark, bytesOf, wordsOf, extends}
-use Rattle.store.specs.Lists.{afterOps, afterBytes, afterLast}
+use Rattle.calls.specs.Calls.{namesLargeMark, bytesOf, wordsOf, extends}
+use Rattle.calls.specs.Lists.{afterOps, afterBytes, afterLast}
 use Rattle.undamaged.proofs.Reading.{View, unread, as-ops, as-data, as-mark, as-reference, read-ops, read-data, read-direct, read-delta, reference-kind}
 
 -- ---- the last section and what is added after it

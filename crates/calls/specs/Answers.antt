@@ -6,13 +6,15 @@ use mathlib.Core.Logic.{_↔_}
 use mathlib.Core.Bool.{Bool, true, false}
 use mathlib.Core.List.{List, [], _∷_}
 use lib.ListN.{length, drop}
-use Rattle.units.specs.Replies.{Reply, stored, refused, badDepth, badWord, largeMark, bytesFull, sectionsFull, damaged}
+use Rattle.units.specs.Replies.{badDepth, badWord, largeMark, bytesFull, sectionsFull, damaged}
+use Rattle.units.specs.Reply.{accepted, refused}
 use Rattle.records.specs.declared.damage.Soundness.the-variants.{Damaged}
-use Rattle.records.specs.Store.{Store}
+use Rattle.records.specs.Store.{Store, countsOf}
+use Rattle.records.specs.declared.Assembler.{Assembler}
 use Rattle.records.specs.Damage.{lastSoundness}
 use Rattle.records.specs.Sections.{decode}
-use Rattle.store.specs.Calls.{Push, Call, hasBadDepth, hasBadWord, hasLargeMark, added, withSection, bytesPass, sectionPasses, pushReply, callAfter}
-use Rattle.store.specs.Lists.{callList}
+use Rattle.calls.specs.Calls.{BuiltReply, Push, Call, hasBadDepth, hasBadWord, hasLargeMark, added, withSection, bytesPass, sectionPasses, pushReply, callAfter}
+use Rattle.calls.specs.Lists.{callList}
 use Rattle.undamaged.specs.View.{Undamaged, unsound}
 
 -- no test of a list passes
@@ -38,19 +40,17 @@ pub record PushAnswers (w : ℕ) (p : Push) (st : Store) : Type 0 where
   pub sectionsFull-iff : (i k : ℕ)
       → (pushReply w p st ≡ refused sectionsFull i k)
       ↔ First (hasBadDepth p ∷ hasBadWord p ∷ hasLargeMark p ∷ unsound (lastSoundness w st) ∷ bytesPass (added p) st ∷ []) (sectionPasses w (added p) st) i k
-  pub stored-iff : (b s : ℕ)
-      → (pushReply w p st ≡ stored b s)
+  pub accepted-iff : (counts : Assembler)
+      → (pushReply w p st ≡ accepted counts)
       ↔ (NoneOf (hasBadDepth p ∷ hasBadWord p ∷ hasLargeMark p ∷ unsound (lastSoundness w st) ∷ bytesPass (added p) st ∷ sectionPasses w (added p) st ∷ [])
-      × (b ≡ withSection w (added p) st .storedBytes)
-      × (s ≡ withSection w (added p) st .sections))
+      × (counts ≡ countsOf (withSection w (added p) st)))
   pub numbers : (n i k : ℕ) → pushReply w p st ≡ refused n i k → (1 ≤ n) × (n ≤ 6)
 
 -- an accepted call on an undamaged store: undamaged again, the list as `callList` has it, and the answer is the counts
-pub record Accepted (w : ℕ) (c : Call) (st : Store) (b s : ℕ) : Type 0 where
+pub record Accepted (w : ℕ) (c : Call) (st : Store) (counts : Assembler) : Type 0 where
   pub undamaged : Undamaged w (callAfter w c st)
   pub list : decode w (callAfter w c st) ≡ callList c (decode w st)
-  pub bytes : b ≡ callAfter w c st .storedBytes
-  pub sections : s ≡ callAfter w c st .sections
+  pub answer : counts ≡ countsOf (callAfter w c st)
 
 -- both slices keep their length, and what they hold past the counts after a call
 pub record Kept (w : ℕ) (before after : Store) : Type 0 where
@@ -60,11 +60,11 @@ pub record Kept (w : ℕ) (before after : Store) : Type 0 where
   pub wordsPast : drop (w * after .sections) (after .words) ≡ drop (w * after .sections) (before .words)
 
 -- an accepted call
-abbrev pub IsStored : Reply → Type 0
-IsStored (stored b s) = Unit {0}
+abbrev pub IsStored : BuiltReply → Type 0
+IsStored (accepted counts) = Unit {0}
 IsStored (refused n i k) = ⊥
 
 -- every call of a list was accepted
-abbrev pub EveryStored : List Reply → Type 0
+abbrev pub EveryStored : List BuiltReply → Type 0
 EveryStored [] = Unit {0}
 EveryStored (r ∷ rs) = IsStored r × EveryStored rs
