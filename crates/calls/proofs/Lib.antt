@@ -1,3 +1,4 @@
+pub mod Adds
 pub mod Reading
 pub mod Grown
 pub mod Added
