@@ -1,4 +1,5 @@
 pub mod Adds
+pub mod Alone
 pub mod Reading
 pub mod Grown
 pub mod Added
