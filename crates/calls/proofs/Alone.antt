@@ -22,7 +22,7 @@ use Rattle.records.specs.Sections.{Section, mark, ops, bytes, reference}
 use Rattle.records.proofs.Damages.{good-bytes}
 use Rattle.calls.specs.Calls.{BuiltReply, bytesOf, wordsOf, recordWords, joins, appended, withSection, bytesPass, noSectionLeft, sectionPasses, roomReply, addReply, addAfter, ifStored}
 use Rattle.calls.specs.Alone.{StandsAlone, withWords, wordsReply, wordsAfter}
-use Rattle.calls.proofs.Adds.{sound-counts}
+use Rattle.calls.proofs.Rooms.{sound-counts}
 
 -- the answer, the byte slice and the words, each way
 abbrev pub AddsWords : ℕ → StoredSection → Store → BuiltReply → List ℕ → Type 0

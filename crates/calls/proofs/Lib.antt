@@ -1,4 +1,4 @@
-pub mod Adds
+pub mod Rooms
 pub mod Alone
 pub mod Reading
 pub mod Grown
