@@ -1,4 +1,4 @@
--- What the small calls answer. Assumes nothing.
+-- What the small calls answer, as numbers and into an array. Assumes nothing.
 use Prim.Native.Nat.{ℕ}
 use mathlib.Core.Bool.{cond}
 use mathlib.Core.List.{List, _++_}
@@ -6,7 +6,7 @@ use lib.Dec.{ltb}
 use lib.ListN.{length, drop}
 use Rattle.evm.specs.declared.landing.Landing.{Landing}
 use Rattle.evm.specs.declared.landing.Landing.the-variants.{Yes, No}
-use Rattle.sadrokki.specs.Numbers.{packed, namesNothing}
+use Rattle.numbers.specs.Numbers.{packed, namesNothing}
 
 -- 1 yes, 0 no
 abbrev pub landingNumber : Landing → ℕ

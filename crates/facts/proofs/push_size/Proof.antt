@@ -3,8 +3,8 @@
 use borrow.Author.Needs.{needs}
 use mathlib.Core.Path.{ap, sym, _∙_}
 use Rattle.evm.specs.Opcodes.{immediateBytes}
-use Rattle.sadrokki.proofs.facts.sadrokki_push_size.Statement.{statement}
-use Rattle.sadrokki.proofs.facts.sadrokki_push_size.Tie as tie
+use Rattle.facts.proofs.push_size.Statement.{statement}
+use Rattle.facts.proofs.push_size.Tie as tie
 
 push-size-requires : tie.Need-push-size-requires
 push-size-requires c κs = search needs
@@ -24,5 +24,5 @@ returns c = ap immediateBytes (sym (c .enum-told .given .1) ∙ c .before .befor
 returns-2 : tie.Need-returns-2
 returns-2 c = ap immediateBytes (sym (c .before .n .given .1) ∙ c .before .before .before .push-size .ensures)
 
-pub sadrokki-push-size-spec : {M : Type 1} → statement M
-sadrokki-push-size-spec = tie.close (tie.spec push-size-requires enum-told enum-known-n cast-result returns returns-2)
+pub push-size-spec : {M : Type 1} → statement M
+push-size-spec = tie.close (tie.spec push-size-requires enum-told enum-known-n cast-result returns returns-2)

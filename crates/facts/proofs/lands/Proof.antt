@@ -2,9 +2,9 @@
 -- Assumes nothing.
 use borrow.Author.Needs.{needs}
 use mathlib.Core.Path.{ap, sym, _∙_}
-use Rattle.sadrokki.specs.Facts.{landingNumber}
-use Rattle.sadrokki.proofs.facts.sadrokki_lands.Statement.{statement}
-use Rattle.sadrokki.proofs.facts.sadrokki_lands.Tie as tie
+use Rattle.facts.specs.Facts.{landingNumber}
+use Rattle.facts.proofs.lands.Statement.{statement}
+use Rattle.facts.proofs.lands.Tie as tie
 
 lands-requires : tie.Need-lands-requires
 lands-requires c κs = search needs
@@ -21,5 +21,5 @@ returns c = ap landingNumber (sym (c .enum-told .given .1) ∙ c .before .before
 returns-2 : tie.Need-returns-2
 returns-2 c = ap landingNumber (sym (c .enum-told2 .given .1) ∙ c .before .before .lands .ensures)
 
-pub sadrokki-lands-spec : {M : Type 1} → statement M
-sadrokki-lands-spec = tie.close (tie.spec lands-requires enum-told enum-told-2 returns returns-2)
+pub lands-spec : {M : Type 1} → statement M
+lands-spec = tie.close (tie.spec lands-requires enum-told enum-told-2 returns returns-2)
