@@ -104,7 +104,6 @@ reads r =
     (λ u. let w : k < 14 = ltb-true k 14 u in reads-delta k a b (k - rawDeltaKind) false four (omega arith) (omega arith))
     (λ _. is-damaged))))))
 
-<<<<<<< HEAD
 -- ---- a readable section, by its kind word
 
 module _ {k a b : ℕ} where
@@ -141,8 +140,6 @@ module _ {k a b : ℕ} where
   reference-read (is-direct f m s p g) u l = (_, refl)
   reference-read (is-delta o m n s p g) u l = (_, refl)
 
-=======
->>>>>>> 1367f35f6436b5b482960045924888eb653d9e94
 -- the kinds Ops and Data are below 3
 other-kind : (k : ℕ) → directKind ≤ k → isSpan k ≡ false
 other-kind k h = or-false _ _ .1 (ne-eqb k opsKind (λ e. omega arith), ne-eqb k dataKind (λ e. omega arith))
