@@ -1,3 +1,3 @@
 pub mod BigEndian
 pub mod Held
-pub mod Widths
+pub mod Forms
