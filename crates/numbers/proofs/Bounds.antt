@@ -1,6 +1,6 @@
 -- Every answer of a building call comes back out of its number: sections at most 1,048,576, stored bytes at most 16,777,216.
 -- Assumes nothing.
-use Prim.Native.Nat.{ℕ, _+_, _*_, _^_, _≤_, _<_, min}
+use Prim.Native.Nat.{ℕ, _+_, _*_, _%_, _^_, _≤_, _<_, min}
 use native.Mathlib.Omega.{arith}
 use mathlib.Core.Path.{_≡_, refl}
 use mathlib.Core.Bool.{Bool, true, false, cond, not, _&&_, and-eq-true-iff as and-true}
@@ -8,6 +8,8 @@ use mathlib.Mathlib.Data.Bool.Basic.{or-eq-false-eq-eq-false-and-eq-false as or-
 use mathlib.Core.Logic.{_⊎_, inl, inr}
 use lib.ListN.{length}
 use borrow.Author.Tests.{leb-true, ltb-false, not-false}
+use Rattle.units.specs.Replies.{refusalNumbers}
+use Rattle.units.specs.declared.reply.Refusal.{Refusal}
 use Rattle.slices.proofs.Tests.{cond-case}
 use Rattle.records.specs.Store.{Store, maxBytes, maxSections, badCounts}
 use Rattle.records.specs.Sections.{Section}
@@ -18,6 +20,7 @@ use Rattle.undamaged.specs.View.{FirstBreak, LastBreak}
 use Rattle.undamaged.proofs.Soundness.{damaged-at-iff, last-damaged-iff}
 use Rattle.calls.specs.Calls.{Push, hasBadDepth, hasBadWord, hasLargeMark, added, joins, joined, appended, withSection, bytesPass, bytesOf, noSectionLeft, sectionPasses, roomReply, soundReply, addReply, pushReply}
 use Rattle.calls.proofs.Rooms.{sound-counts, left-fits}
+use Rattle.numbers.specs.Numbers.{packed, refusalNumber}
 use Rattle.numbers.specs.Packs.{Packs, BuiltPacks}
 
 -- counts that aren't bad are within the limits
@@ -87,3 +90,12 @@ push-packs w p st =
     cond-case BuiltPacks (hasBadDepth p) _ _ (λ h. (omega arith, (omega arith, omega arith, omega arith)))
     (λ h. cond-case BuiltPacks (hasBadWord p) _ _ (λ i. (omega arith, (omega arith, omega arith, omega arith)))
     (λ i. cond-case BuiltPacks (hasLargeMark p) _ _ (λ j. (omega arith, (omega arith, omega arith, omega arith))) (λ j. add-packs w (added p) st)))
+
+-- ---- refusals as the code has them
+
+-- passes that pack aren't cut
+pub refusal-whole : (r : Refusal) → refusalNumbers r .passes < 2 ^ 24
+    → refusalNumber r ≡ packed (refusalNumbers r .number) (refusalNumbers r .passes) (refusalNumbers r .section)
+refusal-whole r h =
+    let same : refusalNumbers r .passes % 2 ^ 24 ≡ refusalNumbers r .passes = omega (arith, h) in
+    rw same

@@ -20,13 +20,13 @@ use Rattle.numbers.proofs.Bounds.{push-packs}
 
 -- number, mid and low come back out
 module _ (number mid low : ℕ) (h : Packs number mid low) where
-  number-back : numberIn (packed number mid low) ≡ number
+  pub number-back : numberIn (packed number mid low) ≡ number
   number-back = omega (arith, h .0, h .1, h .2)
 
-  mid-back : midIn (packed number mid low) ≡ mid
+  pub mid-back : midIn (packed number mid low) ≡ mid
   mid-back = omega (arith, h .0, h .1, h .2)
 
-  low-back : lowIn (packed number mid low) ≡ low
+  pub low-back : lowIn (packed number mid low) ≡ low
   low-back = omega (arith, h .0, h .1, h .2)
 
 -- so a reply comes back out, where what is accepted does
