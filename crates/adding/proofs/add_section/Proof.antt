@@ -1,77 +1,120 @@
+-- 6, then 5, then the new section. What is known at a place on the way is said once, and the returns cite it.
+-- Assumes nothing.
 use borrow.Author.Needs.{needs}
+use native.Mathlib.Omega.{arith}
+use Prim.Native.Nat.{ℕ}
+use mathlib.Core.Path.{_≡_, sym, _∙_, subst}
+use mathlib.Core.Bool.{false}
+use mathlib.Core.List.{List}
+use denote.Ref.{now}
+use Rattle.records.specs.declared.Assembler.{Assembler}
+use Rattle.records.specs.declared.record.StoredSection.{StoredSection}
+use Rattle.records.specs.declared.damage.Soundness.the-variants.{Sound}
+use Rattle.records.specs.Store.{Store, storeOf, wordsPerSection}
+use Rattle.records.specs.Damage.{lastSoundness}
+use Rattle.calls.specs.Calls.{noSectionLeft}
+use Rattle.numbers.specs.Numbers.{storeIn}
+use Rattle.adding.specs.Adding.{storedSection}
+use Rattle.adding.proofs.Parts.{left-fits}
+use Rattle.adding.proofs.Alone.{AddsWords, words-damaged, words-full, words-appended}
 use Rattle.adding.proofs.add_section.Statement.{statement}
 use Rattle.adding.proofs.add_section.Tie as tie
-use Rattle.adding.proofs.add_section.Reads as reads
-use Rattle.adding.proofs.add_section.Lts as lts
-use Rattle.adding.proofs.append_section.Reads as append-section-reads
-use Rattle.adding.proofs.no_section_left.Reads as no-section-left-reads
-use Rattle.numbers.proofs.counts_in.Reads as counts-in-reads
-use Rattle.numbers.proofs.refusal_number.Reads as refusal-number-reads
-use Rattle.numbers.proofs.state_of.Reads as state-of-reads
-use Rattle.records.proofs.check_last.Reads as check-last-reads
 
--- src/lib.rt:88:9
+-- the arguments, and the store of the counts
+abbrev entry : tie.After-counts-in → tie.Start
+entry c = c .before .before .before
+
+abbrev words-of : tie.Start → StoredSection
+words-of s = storedSection (s .args .kind) (s .args .first) (s .args .second)
+
+abbrev store-at : tie.After-counts-in → Store
+store-at c = storeOf (c .counts-in .result) (now (entry c .args .bytes)) (now (entry c .args .words))
+
+-- the counts are the state's
+by-state : (c : tie.After-counts-in) (answer : ℕ) (ws : List ℕ) → AddsWords wordsPerSection (words-of (entry c)) (store-at c) answer ws
+    → AddsWords wordsPerSection (words-of (entry c)) (storeIn (entry c .args .state) (now (entry c .args .bytes)) (now (entry c .args .words))) answer ws
+by-state c answer ws all =
+    let a = entry c .args in
+    subst (λ (k : Assembler). AddsWords wordsPerSection (words-of (entry c)) (storeOf k (now (a .bytes)) (now (a .words))) answer ws) (c .counts-in .ensures) all
+
+-- the test for 6 found nothing
+abbrev counted : tie.After-enum-told → tie.After-counts-in
+counted c = c .before .before .before .before
+
+sound : (c : tie.After-enum-told) → lastSoundness wordsPerSection (store-at (counted c)) ≡ Sound
+sound c = sym (c .before .before .check-last .ensures) ∙ c .enum-told .given .1
+
+-- a section is left
+abbrev tested : tie.Else1 → tie.After-enum-told
+tested c = c .before .before .before
+
+left : (c : tie.Else1) → noSectionLeft wordsPerSection (store-at (counted (tested c)) .sections) (store-at (counted (tested c)) .words) ≡ false
+left c = sym (c .before .no-section-left .ensures) ∙ c .if1 .left
+
 counts-in-requires : tie.Need-counts-in-requires
 counts-in-requires c κs = search needs
 
--- src/lib.rt:89:42
 check-last-requires : tie.Need-check-last-requires
 check-last-requires c κs = search needs
 
--- src/lib.rt:89:31
 enum-known-section : tie.Need-enum-known-section
 enum-known-section c = search needs
 
--- src/lib.rt:90:9
 refusal-number-requires : tie.Need-refusal-number-requires
 refusal-number-requires c κs = search needs
 
--- src/lib.rt:90:9
 same-length : tie.Need-same-length
 same-length c = search needs
 
--- src/lib.rt:90:9
 returns : tie.Need-returns
-returns c = ?
+returns c =
+    let at-section = c .before .before in
+    let checked = at-section .before .before in
+    let at-counts = checked .before .before in
+    let all = words-damaged wordsPerSection (words-of (entry at-counts)) (store-at at-counts) _ (sym (checked .check-last .ensures) ∙ at-section .section .given .1) in
+    by-state at-counts _ _ (c .refusal-number .ensures ∙ all .0, all .1)
 
 enum-told : tie.Need-enum-told
 enum-told c = search needs
 
--- src/lib.rt:93:8
 no-section-left-requires : tie.Need-no-section-left-requires
 no-section-left-requires c κs = search needs
 
--- src/lib.rt:94:9
 refusal-number-requires-2 : tie.Need-refusal-number-requires-2
 refusal-number-requires-2 c κs = search needs
 
--- src/lib.rt:94:9
 same-length-2 : tie.Need-same-length-2
 same-length-2 c = search needs
 
--- src/lib.rt:94:9
 returns-2 : tie.Need-returns-2
-returns-2 c = ?
+returns-2 c =
+    let full = c .before in
+    let told = full .before .before .before in
+    let at-counts = counted told in
+    let all = words-full wordsPerSection (words-of (entry at-counts)) (store-at at-counts) (sound told) (sym (full .before .no-section-left .ensures) ∙ full .if1 .taken) in
+    by-state at-counts _ _ (c .refusal-number2 .ensures ∙ all .0, all .1)
 
--- src/lib.rt:96:5
 append-section-requires : tie.Need-append-section-requires
-append-section-requires c κs = ?
+append-section-requires c κs = left-fits wordsPerSection _ _ (left (c .before)) .1
 
--- src/lib.rt:99:19
 add-t21 : tie.Need-add-t21
-add-t21 c = ?
+add-t21 c =
+    let free = c .before .before .before .before in
+    omega (arith, left-fits wordsPerSection _ _ (left free) .0)
 
--- src/lib.rt:97:5
 state-of-requires : tie.Need-state-of-requires
 state-of-requires c κs = search needs
 
--- src/lib.rt:75:1
 same-length-3 : tie.Need-same-length-3
 same-length-3 c = search needs
 
--- src/lib.rt:75:1
 returns-3 : tie.Need-returns-3
-returns-3 c = ?
+returns-3 c =
+    let wrote = c .before .before .before in
+    let free = wrote .before .before in
+    let at-counts = counted (tested free) in
+    let all = words-appended wordsPerSection (words-of (entry at-counts)) (store-at at-counts) (sound (tested free)) (left free) in
+    by-state at-counts _ _ (c .state-of .ensures ∙ all .0, wrote .append-section .ensures ∙ all .1)
 
 pub add-section-spec : {M : Type 1} → statement M
 add-section-spec =

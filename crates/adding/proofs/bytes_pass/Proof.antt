@@ -1,7 +1,6 @@
 -- `bytes_pass` is the definition: the slice first, then the limit.
 -- Assumes nothing.
 use borrow.Author.Needs.{needs}
-use mathlib.Core.Path.{_≡_, sym, _∙_}
 use native.Mathlib.Omega.{arith}
 use Rattle.adding.proofs.Parts.{pass-slice, pass-limit}
 use Rattle.adding.proofs.bytes_pass.Statement.{statement}

@@ -1,7 +1,5 @@
--- `last_kind_is` is the definition: no section, or the last one's kind.
+-- No section, or the last one's kind.
 -- Assumes nothing.
-use borrow.Author.Needs.{needs}
-use mathlib.Core.Path.{_≡_, sym, _∙_}
 use native.Mathlib.Omega.{arith}
 use Rattle.adding.proofs.Parts.{kind-none, kind-last}
 use Rattle.adding.proofs.last_kind_is.Statement.{statement}

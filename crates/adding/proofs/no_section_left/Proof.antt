@@ -1,7 +1,6 @@
 -- `no_section_left` is the definition: the limit first, then the slice.
 -- Assumes nothing.
 use borrow.Author.Needs.{needs}
-use mathlib.Core.Path.{_≡_, sym, _∙_}
 use native.Mathlib.Omega.{arith}
 use Rattle.adding.proofs.Parts.{left-limit, left-slice}
 use Rattle.adding.proofs.no_section_left.Statement.{statement}
