@@ -1,13 +1,12 @@
 -- Laws of `addReply` and `pushReply` by number, one for each way that the code goes: the answer, the byte slice and the words.
 -- Assumes nothing.
 use Prim.Native.Nat.{ℕ}
-use native.Mathlib.Omega.{arith}
-use mathlib.Core.Path.{_≡_, refl, _∙_, ap, subst}
-use mathlib.Core.Bool.{Bool, true, false}
+use mathlib.Core.Path.{_≡_, _∙_, ap, subst}
+use mathlib.Core.Bool.{true, false}
 use mathlib.Core.List.{List}
 use Rattle.units.specs.Replies.{badDepth, badWord, largeMark, bytesFull, sectionsFull, damaged}
-use Rattle.records.specs.Store.{Store, countsOf, badCounts}
-use Rattle.records.specs.Damage.{lastSoundness, badCountBuilding}
+use Rattle.records.specs.Store.{Store, countsOf}
+use Rattle.records.specs.Damage.{lastSoundness}
 use Rattle.records.specs.Sections.{Section}
 use Rattle.records.specs.declared.damage.Soundness.the-variants.{Sound, Damaged}
 use Rattle.calls.specs.Calls.{Push, hasBadDepth, hasBadWord, hasLargeMark, added, joins, joined, appended, withSection, bytesPass, noSectionLeft, sectionPasses, roomReply, addReply, pushReply, addAfter, pushAfter}
@@ -47,18 +46,6 @@ module _ (w : ℕ) (s : Section) (st : Store) where
 -- what adding a section gives, of the same section written otherwise
 pub add-same : (w : ℕ) (s t : Section) (st : Store) (answer : ℕ) (bs ws : List ℕ) → s ≡ t → Adds w s st answer bs ws → Adds w t st answer bs ws
 add-same w s t st answer bs ws e a = subst (λ (x : Section). Adds w x st answer bs ws) e a
-
--- counts are good where a building call's test finds nothing
-pub sound-counts : (w : ℕ) (st : Store) → lastSoundness w st ≡ Sound → badCounts w st ≡ false
-unfolding lastSoundness badCountBuilding
-sound-counts w st e = go (badCounts w st) refl
-  where
-    go : (t : Bool) → badCounts w st ≡ t → badCounts w st ≡ false
-    go false h = h
-    go true h =
-        let bad : Damaged 0 ≡ Sound = rw h at e in
-        let z : _≡_ {A = ℕ} 0 1 = cc in
-        absurd (omega arith)
 
 -- ---- the calls: refused by their own numbers, or what adding their section gives
 
