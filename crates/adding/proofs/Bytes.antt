@@ -10,9 +10,10 @@ use Rattle.records.specs.Damage.{lastSoundness}
 use Rattle.records.specs.Sections.{ops, bytes}
 use Rattle.records.specs.declared.damage.Soundness.the-variants.{Sound}
 use Rattle.calls.specs.Calls.{recordWords, joins, bytesOver, bytesPass, noSectionLeft}
+use Rattle.calls.specs.Alone.{storedSection}
 use Rattle.numbers.specs.Numbers.{packed}
 use Rattle.numbers.proofs.Adds.{Adds, add-joined, add-appended}
-use Rattle.adding.specs.Adding.{kindNumber, bytesSection, storedSection, lastKindIs}
+use Rattle.adding.specs.Adding.{kindNumber, bytesSection, lastKindIs}
 use Rattle.adding.specs.declared.BytesKind.{BytesKind}
 use Rattle.adding.specs.declared.BytesKind.the-variants.{Ops, Data}
 

@@ -18,10 +18,12 @@ use Rattle.records.specs.Sections.{Section}
 use Rattle.records.specs.Damage.{lastSoundness}
 use Rattle.records.proofs.Damages.{good-words}
 use Rattle.calls.specs.Calls.{recordWords, joins, bytesPass, noSectionLeft}
+use Rattle.calls.specs.Alone.{storedSection}
+use Rattle.calls.proofs.Rooms.{sound-counts, left-fits}
 use Rattle.numbers.specs.Numbers.{storeIn}
-use Rattle.numbers.proofs.Adds.{Adds, add-damaged, add-bytes-full, add-sections-full, sound-counts}
-use Rattle.adding.specs.Adding.{lastKindIs, bytesSection, storedSection}
-use Rattle.adding.proofs.Parts.{left-fits, kind-some}
+use Rattle.numbers.proofs.Adds.{Adds, add-damaged, add-bytes-full, add-sections-full}
+use Rattle.adding.specs.Adding.{lastKindIs, bytesSection}
+use Rattle.adding.proofs.Parts.{kind-some}
 use Rattle.adding.proofs.Bytes.{pass-is, joins-is, bytes-joined, bytes-appended}
 use Rattle.adding.proofs.add_bytes.Statement.{statement}
 use Rattle.adding.proofs.add_bytes.Tie as tie

@@ -3,7 +3,7 @@
 use borrow.Author.Needs.{needs}
 use native.Mathlib.Omega.{arith}
 use Prim.Native.Nat.{ℕ}
-use mathlib.Core.Path.{_≡_, sym, _∙_, subst}
+use mathlib.Core.Path.{_≡_, sym, ap, _∙_, subst}
 use mathlib.Core.Bool.{false}
 use mathlib.Core.List.{List}
 use denote.Ref.{now}
@@ -12,11 +12,11 @@ use Rattle.records.specs.declared.record.StoredSection.{StoredSection}
 use Rattle.records.specs.declared.damage.Soundness.the-variants.{Sound}
 use Rattle.records.specs.Store.{Store, storeOf, wordsPerSection}
 use Rattle.records.specs.Damage.{lastSoundness}
-use Rattle.calls.specs.Calls.{noSectionLeft}
-use Rattle.numbers.specs.Numbers.{storeIn}
-use Rattle.adding.specs.Adding.{storedSection}
-use Rattle.adding.proofs.Parts.{left-fits}
-use Rattle.adding.proofs.Alone.{AddsWords, words-damaged, words-full, words-appended}
+use Rattle.calls.specs.Calls.{BuiltReply, noSectionLeft}
+use Rattle.calls.specs.Alone.{storedSection, wordsReply, wordsAfter}
+use Rattle.calls.proofs.Rooms.{left-fits}
+use Rattle.calls.proofs.Alone.{AddsWords, words-damaged, words-full, words-appended}
+use Rattle.numbers.specs.Numbers.{storeIn, builtNumber}
 use Rattle.adding.proofs.add_section.Statement.{statement}
 use Rattle.adding.proofs.add_section.Tie as tie
 
@@ -30,12 +30,18 @@ words-of s = storedSection (s .args .kind) (s .args .first) (s .args .second)
 abbrev store-at : tie.After-counts-in → Store
 store-at c = storeOf (c .counts-in .result) (now (entry c .args .bytes)) (now (entry c .args .words))
 
--- the counts are the state's
-by-state : (c : tie.After-counts-in) (answer : ℕ) (ws : List ℕ) → AddsWords wordsPerSection (words-of (entry c)) (store-at c) answer ws
-    → AddsWords wordsPerSection (words-of (entry c)) (storeIn (entry c .args .state) (now (entry c .args .bytes)) (now (entry c .args .words))) answer ws
-by-state c answer ws all =
+-- the counts are the state's, and the answer is the reply's number
+abbrev Answers : tie.Start → Store → ℕ → List ℕ → Type 0
+Answers s st answer ws =
+    (answer ≡ builtNumber (wordsReply wordsPerSection (words-of s) st)) × (ws ≡ wordsAfter wordsPerSection (words-of s) st .words)
+
+by-state : (c : tie.After-counts-in) (reply : BuiltReply) (answer : ℕ) (ws : List ℕ) → answer ≡ builtNumber reply
+    → AddsWords wordsPerSection (words-of (entry c)) (store-at c) reply ws
+    → Answers (entry c) (storeIn (entry c .args .state) (now (entry c .args .bytes)) (now (entry c .args .words))) answer ws
+by-state c reply answer ws e all =
     let a = entry c .args in
-    subst (λ (k : Assembler). AddsWords wordsPerSection (words-of (entry c)) (storeOf k (now (a .bytes)) (now (a .words))) answer ws) (c .counts-in .ensures) all
+    subst (λ (k : Assembler). Answers (entry c) (storeOf k (now (a .bytes)) (now (a .words))) answer ws) (c .counts-in .ensures)
+    (e ∙ ap builtNumber (all .0), all .1)
 
 -- the test for 6 found nothing
 abbrev counted : tie.After-enum-told → tie.After-counts-in
@@ -72,7 +78,7 @@ returns c =
     let checked = at-section .before .before in
     let at-counts = checked .before .before in
     let all = words-damaged wordsPerSection (words-of (entry at-counts)) (store-at at-counts) _ (sym (checked .check-last .ensures) ∙ at-section .section .given .1) in
-    by-state at-counts _ _ (c .refusal-number .ensures ∙ all .0, all .1)
+    by-state at-counts _ _ _ (c .refusal-number .ensures) all
 
 enum-told : tie.Need-enum-told
 enum-told c = search needs
@@ -92,7 +98,7 @@ returns-2 c =
     let told = full .before .before .before in
     let at-counts = counted told in
     let all = words-full wordsPerSection (words-of (entry at-counts)) (store-at at-counts) (sound told) (sym (full .before .no-section-left .ensures) ∙ full .if1 .taken) in
-    by-state at-counts _ _ (c .refusal-number2 .ensures ∙ all .0, all .1)
+    by-state at-counts _ _ _ (c .refusal-number2 .ensures) all
 
 append-section-requires : tie.Need-append-section-requires
 append-section-requires c κs = left-fits wordsPerSection _ _ (left (c .before)) .1
@@ -114,7 +120,7 @@ returns-3 c =
     let free = wrote .before .before in
     let at-counts = counted (tested free) in
     let all = words-appended wordsPerSection (words-of (entry at-counts)) (store-at at-counts) (sound (tested free)) (left free) in
-    by-state at-counts _ _ (c .state-of .ensures ∙ all .0, wrote .append-section .ensures ∙ all .1)
+    by-state at-counts _ _ _ (c .state-of .ensures) (all .0, wrote .append-section .ensures ∙ all .1)
 
 pub add-section-spec : {M : Type 1} → statement M
 add-section-spec =

@@ -4,8 +4,8 @@ use Prim.Native.Nat.{_+_, _*_, _≤_}
 use native.Mathlib.Omega.{arith}
 use lib.ListN.{length, length-set}
 use denote.Ref.{now}
-use Rattle.adding.specs.Adding.{storedSection}
-use Rattle.adding.proofs.Parts.{three-stores}
+use Rattle.calls.specs.Alone.{storedSection}
+use Rattle.calls.proofs.Rooms.{three-stores}
 use Rattle.adding.proofs.append_section.Statement.{statement}
 use Rattle.adding.proofs.append_section.Tie as tie
 

@@ -2,7 +2,7 @@
 -- Assumes nothing.
 use borrow.Author.Needs.{needs}
 use native.Mathlib.Omega.{arith}
-use Rattle.adding.proofs.Parts.{left-limit, left-slice}
+use Rattle.calls.proofs.Rooms.{left-limit, left-slice}
 use Rattle.adding.proofs.no_section_left.Statement.{statement}
 use Rattle.adding.proofs.no_section_left.Tie as tie
 
