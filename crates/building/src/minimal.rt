@@ -15,7 +15,7 @@ ghost use Rattle.records.specs.Sections.{ops};
 ghost use Rattle.calls.specs.Calls.{minimalPush, pushMinimalU256, pushMinimalU64, pushMinimalU32, addReply, addAfter};
 ghost use Rattle.calls.specs.Calls.{pushReply, pushAfter};
 ghost use Rattle.numbers.specs.Numbers.{storeIn, builtNumber};
-ghost use Rattle.building.specs.Minimal.{LeadingZeros, pushFrom};
+ghost use Rattle.building.specs.Minimal.{LeadingZeros};
 
 // The bytes of a word.
 const WORD: usize = 32;
@@ -113,7 +113,7 @@ fn leading_zeros(digits: &[u8]) -> usize
 // A number after one byte more, with the opcode in the place before the bytes that it pushes.
 fn push_bytes(digits: &[u8], zeros: usize) -> [u8; 33]
     requires { ⌜ (length (now digits) ≤ 32) × (zeros ≤ length (now digits)) ⌝ }
-    ensures { λ r. ⌜ (length r ≡ 33) × (pushFrom zeros (length (now (digits .entry)) + 1) r
+    ensures { λ r. ⌜ (length r ≡ 33) × (take (length (now (digits .entry)) + 1 - zeros) (drop zeros r)
         ≡ pushOp (length (now (digits .entry)) - zeros) ∷ drop zeros (now (digits .entry))) ⌝ }
 {
     let mut push = [0u8; 33];
