@@ -4,7 +4,6 @@ use adding::add_bytes;
 use numbers::refusal_number;
 use units::Refusal;
 ghost use mathlib.Core.Path.{_≡_};
-ghost use mathlib.Core.Bool.{not};
 ghost use mathlib.Core.List.{[], _∷_};
 ghost use Prim.Native.Nat.{_≤_};
 ghost use Rattle.evm.specs.Opcodes.{swapOp};
@@ -45,7 +44,7 @@ pub fn push_swap(state: u64, bytes: &mut [u8], words: &mut [u32], depth: u8) -> 
     ensures words { λ _. ⌜ now (words .exit) ≡ pushAfter wordsPerSection (pushSwap depth)
         (storeIn state (now (bytes .entry)) (now (words .entry))) .words ⌝ }
 {
-    if !is_swap(depth) {
+    if is_bad_swap(depth) {
         return refusal_number(Refusal::BadDepth);
     }
     let op = swap_op(depth);
@@ -86,7 +85,7 @@ pub fn push_exchange(state: u64, bytes: &mut [u8], words: &mut [u32], n: u8, m: 
     ensures words { λ _. ⌜ now (words .exit) ≡ pushAfter wordsPerSection (pushExchange n m)
         (storeIn state (now (bytes .entry)) (now (words .entry))) .words ⌝ }
 {
-    if !are_exchanged(n, m) {
+    if is_bad_exchange(n, m) {
         return refusal_number(Refusal::BadDepth);
     }
     if n == 0 {
@@ -137,27 +136,27 @@ fn begin_op(state: u64, bytes: &mut [u8], words: &mut [u32], op: u8) -> u64
     add_bytes(state, bytes, words, BytesKind::Ops, &ops)
 }
 
-// The depth of a SWAP.
-fn is_swap(depth: u8) -> bool
-    ensures { λ r. ⌜ not r ≡ hasBadDepth (pushSwap depth) ⌝ }
+// 1: no depth of a SWAP.
+fn is_bad_swap(depth: u8) -> bool
+    ensures { λ r. ⌜ r ≡ hasBadDepth (pushSwap depth) ⌝ }
 {
     if depth == 0 {
-        return false;
+        return true;
     }
-    depth <= MAX_SWAP
+    MAX_SWAP < depth
 }
 
-// Two depths that can be exchanged.
-fn are_exchanged(n: u8, m: u8) -> bool
-    ensures { λ r. ⌜ not r ≡ hasBadDepth (pushExchange n m) ⌝ }
+// 1: no two depths to exchange.
+fn is_bad_exchange(n: u8, m: u8) -> bool
+    ensures { λ r. ⌜ r ≡ hasBadDepth (pushExchange n m) ⌝ }
 {
     if n == m {
-        return false;
+        return true;
     }
     if MAX_SWAP < n {
-        return false;
+        return true;
     }
-    m <= MAX_SWAP
+    MAX_SWAP < m
 }
 
 // SWAP1 for depth 1, up to SWAP16.

@@ -12,7 +12,6 @@ use units::AsmReference;
 use units::MarkReference;
 use units::Refusal;
 ghost use mathlib.Core.Path.{_≡_};
-ghost use mathlib.Core.Bool.{not};
 ghost use Rattle.records.specs.Store.{wordsPerSection};
 ghost use Rattle.calls.specs.Calls.{pushMark, pushReference, namesLargeMark, pushReply, pushAfter};
 ghost use Rattle.numbers.specs.Numbers.{storeIn, builtNumber};
@@ -72,7 +71,7 @@ pub fn push_delta(
     if !is_form(form) {
         return NAMES_NOTHING;
     }
-    if !are_marks(start, end) {
+    if is_large_delta(start, end) {
         return refusal_number(Refusal::LargeMark);
     }
     let kind = delta_kind(form);
@@ -105,22 +104,22 @@ pub fn push_reference(state: u64, bytes: &[u8], words: &mut [u32], r: AsmReferen
     add_section(state, &bytes[..], words, kind, first, second)
 }
 
-// The numbers of marks.
-fn are_marks(start: u32, end: u32) -> bool
-    ensures { λ r. ⌜ not r ≡ namesLargeMark (delta start «end») ⌝ }
+// 3: a mark of a delta is too large.
+fn is_large_delta(start: u32, end: u32) -> bool
+    ensures { λ r. ⌜ r ≡ namesLargeMark (delta start «end») ⌝ }
 {
     if Assembler::MAX_MARK < start {
-        return false;
+        return true;
     }
-    end <= Assembler::MAX_MARK
+    Assembler::MAX_MARK < end
 }
 
-// A mark that a reference names is too large.
+// 3: a mark that a reference names is too large.
 fn names_large_mark(mark_ref: MarkReference) -> bool
     ensures { λ r. ⌜ r ≡ namesLargeMark «mark_ref» ⌝ }
 {
     match mark_ref {
         MarkReference::Direct(id) => Assembler::MAX_MARK < id.0,
-        MarkReference::Delta(span) => !are_marks(span.start.0, span.end.0),
+        MarkReference::Delta(span) => is_large_delta(span.start.0, span.end.0),
     }
 }
