@@ -3,6 +3,7 @@
 use borrow.Author.Needs.{needs}
 use native.Mathlib.Omega.{arith}
 use denote.Ref.{now}
+use Prim.Native.Nat.{_≤_}
 use mathlib.Core.Path.{_≡_, refl, sym, _∙_}
 use mathlib.Core.List.{[], _∷_}
 use Rattle.records.specs.Store.{wordsPerSection}
@@ -21,6 +22,9 @@ entry c = c .before .before .before .before
 
 judged : (c : tie.Else1) → Judged (pushExchange (entry c .args .n) (entry c .args .m))
 judged c = (sym (c .before .is-bad-exchange .ensures) ∙ c .if1 .left, (refl, refl))
+
+depths : (c : tie.Else1) → ((entry c .args .n ≡ entry c .args .m → ⊥) × ((entry c .args .n ≤ 16) × (entry c .args .m ≤ 16)))
+depths c = exchange-depths (entry c .args .n) (entry c .args .m) (judged c .0)
 
 -- neither is 0: three SWAPs
 abbrev tested : tie.Else3 → tie.Else1
@@ -60,7 +64,7 @@ returns c =
     (c .refusal-number .ensures ∙ all .0, all .1)
 
 swap-op-requires : tie.Need-swap-op-requires
-swap-op-requires c κs = omega (arith, exchange-depths _ _ (judged (c .before .before .before) .0))
+swap-op-requires c κs = omega (arith, depths (c .before .before .before))
 
 begin-op-requires : tie.Need-begin-op-requires
 begin-op-requires c κs = search needs
@@ -82,7 +86,7 @@ returns-2 c =
     (exchange-zero-first (a .n) (a .m) (zero .if2 .taken) (swap .swap-op .ensures)) (begun .begin-op .ensures)
 
 swap-op-requires-2 : tie.Need-swap-op-requires-2
-swap-op-requires-2 c κs = omega (arith, exchange-depths _ _ (judged (c .before .before .before .before) .0))
+swap-op-requires-2 c κs = omega (arith, depths (c .before .before .before .before))
 
 begin-op-requires-2 : tie.Need-begin-op-requires-2
 begin-op-requires-2 c κs = search needs
@@ -104,13 +108,13 @@ returns-3 c =
     (exchange-zero-second (a .n) (a .m) (zero .before .if2 .left) (zero .if3 .taken) (swap .swap-op2 .ensures)) (begun .begin-op2 .ensures)
 
 swap-op-requires-3 : tie.Need-swap-op-requires-3
-swap-op-requires-3 c κs = omega (arith, exchange-depths _ _ (judged (tested c) .0))
+swap-op-requires-3 c κs = omega (arith, depths (tested c))
 
 swap-op-requires-4 : tie.Need-swap-op-requires-4
-swap-op-requires-4 c κs = omega (arith, exchange-depths _ _ (judged (tested (c .before)) .0))
+swap-op-requires-4 c κs = omega (arith, depths (tested (c .before)))
 
 swap-op-requires-5 : tie.Need-swap-op-requires-5
-swap-op-requires-5 c κs = omega (arith, exchange-depths _ _ (judged (tested (c .before .before)) .0))
+swap-op-requires-5 c κs = omega (arith, depths (tested (c .before .before)))
 
 slice-aggregate-extend-ops : tie.Need-slice-aggregate-extend-ops
 slice-aggregate-extend-ops c = search needs

@@ -1,53 +1,76 @@
+-- 3; at once after a last section; else what adding the words gives.
+-- Assumes nothing.
 use borrow.Author.Needs.{needs}
+use denote.Ref.{now}
+use mathlib.Core.Path.{_≡_, refl, sym, _∙_}
+use Rattle.records.specs.Store.{wordsPerSection}
+use Rattle.calls.specs.Calls.{pushReference}
+use Rattle.numbers.specs.Numbers.{storeIn}
+use Rattle.numbers.proofs.Adds.{push-large-mark}
+use Rattle.building.proofs.Ways.{Judged, put-done, put-judged}
 use Rattle.building.proofs.section.push_reference.Statement.{statement}
 use Rattle.building.proofs.section.push_reference.Tie as tie
-use Rattle.building.proofs.section.push_reference.Reads as reads
-use Rattle.building.proofs.section.push_reference.Lts as lts
-use Rattle.adding.proofs.add_section.Reads as add-section-reads
-use Rattle.building.proofs.section.names_large_mark.Reads as names-large-mark-reads
-use Rattle.numbers.proofs.refusal_number.Reads as refusal-number-reads
-use Rattle.records.proofs.reference_words.Reads as reference-words-reads
-use Rattle.short.proofs.put_section.Reads as put-section-reads
 
--- src/section.rt:93:8
+-- the marks are ones, seen from where they were tested
+abbrev entry : tie.Else1 → tie.Start
+entry c = c .before .before .before .before
+
+judged : (c : tie.Else1) → Judged (pushReference (entry c .args .r))
+judged c = (refl, (refl, sym (c .before .names-large-mark .ensures) ∙ c .if1 .left))
+
+-- the words, and what was tried
+abbrev worded : tie.After-put-section → tie.After-reference-words
+worded c = c .before .before
+
+abbrev tried : tie.After-slice-known2 → tie.After-put-section
+tried c = c .before .before
+
 names-large-mark-requires : tie.Need-names-large-mark-requires
 names-large-mark-requires c κs = search needs
 
--- src/section.rt:94:9
 refusal-number-requires : tie.Need-refusal-number-requires
 refusal-number-requires c κs = search needs
 
--- src/section.rt:94:9
 returns : tie.Need-returns
-returns c = ?
+returns c =
+    let large = c .before in
+    let a = large .before .before .before .before .args in
+    let st = storeIn (a .state) (now (a .bytes)) (now (a .words)) in
+    let all = push-large-mark wordsPerSection (pushReference (a .r)) st refl refl (sym (large .before .names-large-mark .ensures) ∙ large .if1 .taken) in
+    (c .refusal-number .ensures ∙ all .0, all .1 .1)
 
--- src/section.rt:96:9
 reference-words-requires : tie.Need-reference-words-requires
 reference-words-requires c κs = search needs
 
--- src/section.rt:100:9
 put-section-requires : tie.Need-put-section-requires
 put-section-requires c κs = search needs
 
--- src/section.rt:102:9
 same-length : tie.Need-same-length
 same-length c = search needs
 
--- src/section.rt:102:9
 returns-2 : tie.Need-returns-2
-returns-2 c = ?
+returns-2 c =
+    let t = tried (c .before) in
+    let w = worded t in
+    let a = entry (w .before) .args in
+    put-done (a .state) (now (a .bytes)) (now (a .words)) (pushReference (a .r)) (judged (w .before)) tt (w .reference-words .ensures)
+    (t .put-section .ensures) (c .if2 .taken)
 
--- src/section.rt:104:5
 add-section-requires : tie.Need-add-section-requires
 add-section-requires c κs = search needs
 
--- src/section.rt:86:1
 same-length-2 : tie.Need-same-length-2
 same-length-2 c = search needs
 
--- src/section.rt:86:1
 returns-3 : tie.Need-returns-3
-returns-3 c = ?
+returns-3 c =
+    let added = c .before .before in
+    let left = added .before .before in
+    let t = tried (left .before) in
+    let w = worded t in
+    let a = entry (w .before) .args in
+    put-judged (a .state) (now (a .bytes)) (now (a .words)) (pushReference (a .r)) (judged (w .before)) tt (w .reference-words .ensures)
+    (t .put-section .ensures) (left .if2 .left) (added .add-section .ensures)
 
 pub push-reference-spec : {M : Type 1} → statement M
 push-reference-spec =
