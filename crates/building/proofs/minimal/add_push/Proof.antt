@@ -1,51 +1,59 @@
+-- What adding the opcode and the bytes after the leading zeros gives.
+-- Assumes nothing.
 use borrow.Author.Needs.{needs}
+use native.Mathlib.Omega.{arith}
+use denote.Ref.{now}
+use mathlib.Core.Path.{ap, _∙_}
+use Rattle.units.specs.Numbers.{number}
+use Rattle.units.proofs.BigEndian.{AllBytes}
+use Rattle.records.specs.Store.{wordsPerSection}
+use Rattle.records.specs.Sections.{ops}
+use Rattle.calls.specs.Calls.{minimalPush}
+use Rattle.numbers.specs.Numbers.{storeIn}
+use Rattle.numbers.proofs.Adds.{add-same}
+use Rattle.building.proofs.Digits.{minimal-of}
 use Rattle.building.proofs.minimal.add_push.Statement.{statement}
 use Rattle.building.proofs.minimal.add_push.Tie as tie
-use Rattle.building.proofs.minimal.add_push.Reads as reads
-use Rattle.building.proofs.minimal.add_push.Lts as lts
-use Rattle.adding.proofs.add_bytes.Reads as add-bytes-reads
-use Rattle.building.proofs.minimal.leading_zeros.Reads as leading-zeros-reads
-use Rattle.building.proofs.minimal.push_bytes.Reads as push-bytes-reads
 
--- src/minimal.rt:93:9
 leading-zeros-requires : tie.Need-leading-zeros-requires
 leading-zeros-requires c κs = search needs
 
--- src/minimal.rt:94:16
 push-bytes-requires : tie.Need-push-bytes-requires
 push-bytes-requires c κs = search needs
 
--- src/minimal.rt:95:15
 add-end : tie.Need-add-end
 add-end c = search needs
 
--- src/minimal.rt:96:52
 sub-add-bytes : tie.Need-sub-add-bytes
 sub-add-bytes c = search needs
 
--- src/minimal.rt:96:52
 part-add-bytes-start : tie.Need-part-add-bytes-start
 part-add-bytes-start c = search needs
 
--- src/minimal.rt:96:52
 part-add-bytes-end : tie.Need-part-add-bytes-end
 part-add-bytes-end c = search needs
 
--- src/minimal.rt:96:5
 add-bytes-requires : tie.Need-add-bytes-requires
 add-bytes-requires c κs = search needs
 
--- src/minimal.rt:84:1
 same-length : tie.Need-same-length
 same-length c = search needs
 
--- src/minimal.rt:84:1
 same-length-2 : tie.Need-same-length-2
 same-length-2 c = search needs
 
--- src/minimal.rt:84:1
 returns : tie.Need-returns
-returns c = ?
+returns c =
+    let added = c .before .before .before .before in
+    let made = added .before .before .before .before .before in
+    let scanned = made .before in
+    let known = scanned .before in
+    let start = known .before .before .before in
+    let a = start .args in
+    let digits = now (a .digits) in
+    let all : AllBytes digits = λ i. omega (arith, known .shared-slice-known .given i) in
+    let push = made .push-bytes .ensures .1 ∙ minimal-of digits (scanned .leading-zeros .result) (start .pre) all (scanned .leading-zeros .ensures) in
+    add-same wordsPerSection _ (ops (minimalPush (number digits))) (storeIn (a .state) (now (a .bytes)) (now (a .words))) _ _ _ (ap ops push) (added .add-bytes .ensures)
 
 pub add-push-spec : {M : Type 1} → statement M
 add-push-spec =

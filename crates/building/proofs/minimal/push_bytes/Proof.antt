@@ -42,7 +42,7 @@ returns c =
     let op = 0x5f + (length digits - zeros) in (
       simp length-set (ap length written ∙ length-over (replicate 33 0) 1 digits (omega arith) room),
       ap (λ (x : List ℕ). take (length digits + 1 - zeros) (drop zeros (set x zeros op))) written
-      ∙ opcode-before digits (drop (1 + length digits) (replicate 33 0)) zeros op (start .pre .1),
+          ∙ opcode-before digits (drop (1 + length digits) (replicate 33 0)) zeros op (start .pre .1),
     )
 
 pub push-bytes-spec : {M : Type 1} → statement M
