@@ -16,8 +16,9 @@ ghost use lib.ListN.{length, set};
 ghost use Rattle.records.specs.Store.{wordsPerSection};
 ghost use Rattle.slices.specs.Over.{over};
 ghost use Rattle.calls.specs.Calls.{recordWords, bytesOver, noSectionLeft, addReply, addAfter};
+ghost use Rattle.calls.specs.Alone.{storedSection, wordsReply, wordsAfter};
 ghost use Rattle.numbers.specs.Numbers.{storeIn, builtNumber};
-ghost use Rattle.adding.specs.Adding.{kindNumber, bytesSection, storedSection, wordsReply, wordsAfter, lastKindIs};
+ghost use Rattle.adding.specs.Adding.{kindNumber, bytesSection, lastKindIs};
 
 // The two kinds of section that hold bytes.
 pub enum BytesKind {
