@@ -9,7 +9,8 @@ use borrow.Author.Tests.{le-leb, lt-leb, leb-true, lt-ltb, le-ltb}
 use Rattle.units.specs.declared.SetSize.{SetSize}
 use Rattle.units.specs.declared.MarkReference.{MarkReference}
 use Rattle.units.specs.Reference.{leastSize, sizeFor, tooNarrow, size}
-use Rattle.records.specs.Record.{sizeNumber, setSizeOf, pushedNumber, directKind, deltaKind, referenceWords}
+use Rattle.records.specs.Record.{setSizeOf, directKind, deltaKind, referenceWords}
+use Rattle.units.specs.Form.{sizeNumber, pushedNumber}
 use Rattle.calls.specs.Alone.{storedSection}
 use Rattle.numbers.specs.declared.form.Form.the-variants.{Names, Nothing}
 use Rattle.numbers.specs.Forms.{formOf, direct, delta, formed, isForm, formKind}
