@@ -13,7 +13,8 @@ use Rattle.records.specs.Store.{Store, countsOf}
 use Rattle.records.specs.declared.Assembler.{Assembler}
 use Rattle.records.specs.Damage.{lastSoundness}
 use Rattle.records.specs.Sections.{decode}
-use Rattle.calls.specs.Calls.{BuiltReply, Push, Call, hasBadDepth, hasBadWord, hasLargeMark, added, withSection, bytesPass, sectionPasses, pushReply, callAfter}
+use Rattle.calls.specs.Calls.{BuiltReply, Push, Call, hasBadDepth, hasBadWord, hasLargeMark, added, withSection}
+use Rattle.calls.specs.Calls.{bytesPass, sectionPasses, pushReply, callAfter}
 use Rattle.calls.specs.Lists.{callList}
 use Rattle.undamaged.specs.View.{Undamaged, unsound}
 
@@ -30,7 +31,9 @@ First earlier condition i k = NoneOf earlier × (condition ≡ true) × (i ≡ 0
 pub record PushAnswers (w : ℕ) (p : Push) (st : Store) : Type 0 where
   pub badDepth-iff : (i k : ℕ) → (pushReply w p st ≡ refused badDepth i k) ↔ First [] (hasBadDepth p) i k
   pub badWord-iff : (i k : ℕ) → (pushReply w p st ≡ refused badWord i k) ↔ First (hasBadDepth p ∷ []) (hasBadWord p) i k
-  pub largeMark-iff : (i k : ℕ) → (pushReply w p st ≡ refused largeMark i k) ↔ First (hasBadDepth p ∷ hasBadWord p ∷ []) (hasLargeMark p) i k
+  pub largeMark-iff : (i k : ℕ)
+      → (pushReply w p st ≡ refused largeMark i k)
+      ↔ First (hasBadDepth p ∷ hasBadWord p ∷ []) (hasLargeMark p) i k
   pub damaged-iff : (i k : ℕ)
       → (pushReply w p st ≡ refused damaged i k)
       ↔ (NoneOf (hasBadDepth p ∷ hasBadWord p ∷ hasLargeMark p ∷ []) × (lastSoundness w st ≡ Damaged i) × (k ≡ 0))
@@ -39,10 +42,13 @@ pub record PushAnswers (w : ℕ) (p : Push) (st : Store) : Type 0 where
       ↔ First (hasBadDepth p ∷ hasBadWord p ∷ hasLargeMark p ∷ unsound (lastSoundness w st) ∷ []) (bytesPass (added p) st) i k
   pub sectionsFull-iff : (i k : ℕ)
       → (pushReply w p st ≡ refused sectionsFull i k)
-      ↔ First (hasBadDepth p ∷ hasBadWord p ∷ hasLargeMark p ∷ unsound (lastSoundness w st) ∷ bytesPass (added p) st ∷ []) (sectionPasses w (added p) st) i k
+      ↔ First (hasBadDepth p ∷ hasBadWord p ∷ hasLargeMark p ∷ unsound (lastSoundness w st) ∷ bytesPass (added p) st ∷ [])
+      (sectionPasses w (added p) st) i k
   pub accepted-iff : (counts : Assembler)
       → (pushReply w p st ≡ accepted counts)
-      ↔ (NoneOf (hasBadDepth p ∷ hasBadWord p ∷ hasLargeMark p ∷ unsound (lastSoundness w st) ∷ bytesPass (added p) st ∷ sectionPasses w (added p) st ∷ [])
+      ↔ (NoneOf
+      (hasBadDepth p ∷ hasBadWord p ∷ hasLargeMark p ∷ unsound (lastSoundness w st) ∷ bytesPass (added p) st
+      ∷ sectionPasses w (added p) st ∷ [])
       × (counts ≡ countsOf (withSection w (added p) st)))
   pub numbers : (n i k : ℕ) → pushReply w p st ≡ refused n i k → (1 ≤ n) × (n ≤ 6)
 
