@@ -1,10 +1,9 @@
 pub mod Digits
 pub mod Puts
 pub mod Turns
-pub mod Undamaged
 pub mod Lengths
 pub mod Every
+pub mod SectionLines
 pub mod Answers
 pub mod Examples
 pub mod Held
-pub mod Words

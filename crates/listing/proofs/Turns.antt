@@ -10,7 +10,7 @@ use lib.ListN.{length, getD, take, drop, length-append, length-drop, drop-of-len
 use lib.Seq.{slice, drop-cons, slice-cons, slice-empty, length-slice, take-all, length-take-le, drop-at, take-add, take-take, drop-drop}
 use lib.Dec.{ltb, eqb}
 use borrow.Author.Tests.{lt-ltb, le-ltb, ltb-true, ltb-false, ne-eqb}
-use Rattle.listing.specs.Put.{Put, placedAt}
+use Rattle.listing.specs.Put.{Put, Room, immediateAt, placedAt}
 use Rattle.listing.specs.Decimal.{digit, decimal}
 use Rattle.opcodes.specs.Text.{asBytes}
 use Rattle.evm.specs.YellowPaper.{instructionLength}
@@ -27,6 +27,10 @@ left-is {t} {at} {whole} {now} {here} e l = subst (λ (x : List ℕ). Left t at 
 -- what was put, written otherwise
 pub put-is : {t m : List ℕ} {at r : ℕ} {x y : List ℕ} → x ≡ y → Put t at x r m → Put t at y r m
 put-is {t} {m} {at} {r} e p = subst (λ (x : List ℕ). Put t at x r m) e p
+
+-- and there is room for it
+pub room-is : (at : ℕ) {x y : List ℕ} → x ≡ y → Room at x → Room at y
+room-is at e h = subst (Room at) e h
 
 -- ---- a byte string, from its byte i on
 
