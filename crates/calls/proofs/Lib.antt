@@ -1,3 +1,5 @@
+pub mod Rooms
+pub mod Alone
 pub mod Reading
 pub mod Grown
 pub mod Added

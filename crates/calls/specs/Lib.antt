@@ -1,3 +1,4 @@
 pub mod Calls
+pub mod Alone
 pub mod Lists
 pub mod Answers

@@ -25,7 +25,7 @@ use Rattle.slices.specs.Over.{over}
 use Rattle.store.specs.Adding.{Alone, aloneMark, aloneReference, aloneSection, lastKindIs, storedSection}
 use Rattle.store.proofs.Adds.{Adds, add-joined, add-appended, alone-appended, push-adds, push-reply, push-after}
 use Rattle.store.proofs.Parts.{left-slice}
-use Rattle.emission.proofs.Rows.{over-one, over-next, over-nothing}
+use Rattle.slices.proofs.Over.{over-one, over-next, over-nothing}
 use Rattle.sadrokki.specs.Numbers.{storeIn, builtNumber}
 use Rattle.sadrokki.specs.Short.{Takes, Extends, Begins, endMoved, aloneCall}
 

@@ -1,10 +1,12 @@
 -- Laws of `over`: a list with others written over it from an index on. Assumes nothing.
-use Prim.Native.Nat.{ℕ, _+_, _≤_, _<_}
-use native.Mathlib.Nat.{add-sub-of-le}
-use mathlib.Core.Path.{_≡_, sym, ap, _∙_, subst}
-use mathlib.Core.List.{List, _++_, append-assoc}
-use lib.ListN.{length, getD, take, drop, length-append, length-drop, List·getD-append}
-use lib.Seq.{paste, take-length, slice, length-take-le, take-at, drop-at, drop-append-le, getD-append-add}
+use Prim.Native.Nat.{ℕ, suc, _+_, _≤_, _<_}
+use native.Mathlib.Omega.{arith}
+use native.Mathlib.Nat.{add-zero, add-sub-of-le}
+use native.Mathlib.Numerals.{add-one}
+use mathlib.Core.Path.{_≡_, sym, ap, ap₂, _∙_, subst}
+use mathlib.Core.List.{List, [], _∷_, _++_, append-assoc}
+use lib.ListN.{length, getD, take, drop, set, length-append, length-drop, take-append-drop, List·getD-append}
+use lib.Seq.{paste, take-length, slice, length-take-le, take-at, drop-at, drop-drop, drop-append-le, getD-append-add, set-split, take-set-le}
 use borrow.Author.Tests.{le-leb, lt-leb}
 use Rattle.slices.specs.Over.{over, overIfRoom}
 
@@ -58,3 +60,38 @@ has-room old i new h = rw (le-leb (i + length new) (length old) h)
 pub no-room : (old : List ℕ) (i : ℕ) (new : List ℕ) → length old < i + length new → overIfRoom old i new ≡ old
 unfolding overIfRoom
 no-room old i new h = rw (lt-leb (i + length new) (length old) h)
+
+-- ---- one part after another
+
+-- nothing written
+pub over-nothing : (old : List ℕ) (i : ℕ) → over old i [] ≡ old
+over-nothing old i = ap (λ (k : ℕ). take i old ++ drop k old) (add-zero i) ∙ take-append-drop i old
+
+-- a part after a part is both at once
+pub over-next : (old : List ℕ) (i : ℕ) (xs ys : List ℕ) → i + length xs ≤ length old → over (over old i xs) (i + length xs) ys ≡ over old i (xs ++ ys)
+over-next old i xs ys h =
+    let l : length (take i old ++ xs) ≡ i + length xs = length-append (take i old) xs ∙ ap (λ (k : ℕ). k + length xs) (length-take-le i old (omega arith)) in
+    let split : over old i xs ≡ (take i old ++ xs) ++ drop (i + length xs) old = sym (append-assoc (take i old) xs (drop (i + length xs) old)) in
+    let front : take (i + length xs) (over old i xs) ≡ take i old ++ xs = ap (take (i + length xs)) split ∙ take-at (take i old ++ xs) (drop (i + length xs) old) (i + length xs) l in
+    let back : drop (i + length xs + length ys) (over old i xs) ≡ drop (i + length xs + length ys) old =
+    sym (drop-drop (length ys) (i + length xs) (over old i xs)) ∙ ap (drop (length ys)) (drop-over old i xs (omega arith)) ∙ drop-drop (length ys) (i + length xs) old in
+    let same : i + length xs + length ys ≡ i + length (xs ++ ys) = omega (arith, length-append xs ys) in
+    ap₂ (λ (a b : List ℕ). a ++ (ys ++ b)) front back
+    ∙ append-assoc (take i old) xs (ys ++ drop (i + length xs + length ys) old)
+    ∙ ap (λ (r : List ℕ). take i old ++ r) (sym (append-assoc xs ys (drop (i + length xs + length ys) old)))
+    ∙ ap (λ (k : ℕ). take i old ++ ((xs ++ ys) ++ drop k old)) same
+
+-- a byte set after the place of a part is the part with that byte
+pub over-set : (old : List ℕ) (i n b : ℕ) (xs : List ℕ) → length xs ≡ n → i + n < length old → over (set old (i + n) b) i xs ≡ over old i (xs ++ (b ∷ []))
+over-set old i n b xs e h =
+    let front : take i (set old (i + n) b) ≡ take i old = take-set-le i old (i + n) b (omega arith) in
+    let back : drop (i + n) (set old (i + n) b) ≡ b ∷ drop (suc (i + n)) old =
+    ap (drop (i + n)) (set-split old (i + n) b h) ∙ drop-at (take (i + n) old) (b ∷ drop (suc (i + n)) old) (i + n) (length-take-le (i + n) old (omega arith)) in
+    let same : suc (i + n) ≡ i + length (xs ++ (b ∷ [])) = omega (arith, length-append xs (b ∷ [])) in
+    ap₂ (λ (a c : List ℕ). a ++ (xs ++ c)) front (ap (λ (k : ℕ). drop (i + k) (set old (i + n) b)) e ∙ back)
+    ∙ ap (λ (r : List ℕ). take i old ++ r) (sym (append-assoc xs (b ∷ []) (drop (suc (i + n)) old)))
+    ∙ ap (λ (k : ℕ). take i old ++ ((xs ++ (b ∷ [])) ++ drop k old)) same
+
+-- one byte set is one byte written
+pub over-one : (old : List ℕ) (i b : ℕ) → i < length old → set old i b ≡ over old i (b ∷ [])
+over-one old i b h = set-split old i b h ∙ ap (λ (k : ℕ). take i old ++ (b ∷ drop k old)) (sym (add-one i))

@@ -9,7 +9,7 @@ use lib.ListN.{length, length-set}
 use lib.Seq.{slice, slice-empty, length-slice}
 use denote.Ref.{now}
 use Rattle.slices.specs.Over.{over}
-use Rattle.emission.proofs.Rows.{over-nothing}
+use Rattle.slices.proofs.Over.{over-nothing}
 use Rattle.assembler.proofs.Writes.{span-step}
 use Rattle.assembler.proofs.write.write_span.Statement.{statement}
 use Rattle.assembler.proofs.write.write_span.Tie as tie

@@ -1,6 +1,6 @@
 -- The byte stored, and the end moved.
 -- Assumes nothing.
-use Rattle.emission.proofs.Rows.{over-one}
+use Rattle.slices.proofs.Over.{over-one}
 use Prim.Native.Nat.{_%_, _^_}
 use denote.Ref.{now}
 use native.Mathlib.Omega.{arith}

@@ -1,0 +1,59 @@
+-- What the tests of a building call tell of the counts, and three stores as one record. The laws of the answers stand in `numbers`,
+-- proofs/Adds. Assumes nothing.
+use Prim.Native.Nat.{ℕ, _+_, _*_, _≤_, _<_}
+use native.Mathlib.Omega.{arith}
+use native.Mathlib.Numerals.{add-one, add-two}
+use mathlib.Core.Path.{_≡_, refl, _∙_}
+use mathlib.Core.Bool.{Bool, true, false, _||_, true≢false}
+use mathlib.Core.List.{List, [], _∷_, append-assoc}
+use lib.ListN.{length, take, drop, set}
+use lib.Seq.{sets-eq}
+use lib.Dec.{ltb}
+use borrow.Author.Tests.{lt-ltb, le-ltb, ltb-false}
+use Rattle.slices.specs.Over.{over}
+use Rattle.records.specs.Store.{Store, maxSections, badCounts}
+use Rattle.records.specs.Damage.{lastSoundness, badCountBuilding}
+use Rattle.records.specs.declared.damage.Soundness.the-variants.{Sound, Damaged}
+use Rattle.records.specs.declared.record.StoredSection.{StoredSection}
+use Rattle.calls.specs.Calls.{recordWords, noSectionLeft}
+
+-- counts are good where a building call's test finds nothing
+pub sound-counts : (w : ℕ) (st : Store) → lastSoundness w st ≡ Sound → badCounts w st ≡ false
+unfolding lastSoundness badCountBuilding
+sound-counts w st e = go (badCounts w st) refl
+  where
+    go : (t : Bool) → badCounts w st ≡ t → badCounts w st ≡ false
+    go false h = h
+    go true h =
+        let bad : Damaged 0 ≡ Sound = rw h at e in
+        let z : _≡_ {A = ℕ} 0 1 = cc in
+        absurd (omega arith)
+
+-- 5, as the code tests it: the limit first, then the slice
+pub left-limit : (w n : ℕ) (words : List ℕ) → maxSections < n + 1 → true ≡ noSectionLeft w n words
+unfolding noSectionLeft
+left-limit w n words h =
+    let t : ltb maxSections (n + 1) ≡ true = lt-ltb maxSections (n + 1) h in
+    rw t
+
+pub left-slice : (w n : ℕ) (words : List ℕ) → n + 1 ≤ maxSections → ltb (length words) (w * (n + 1)) ≡ noSectionLeft w n words
+unfolding noSectionLeft
+left-slice w n words h =
+    let t : ltb maxSections (n + 1) ≡ false = le-ltb maxSections (n + 1) h in
+    rw t
+
+-- where a section is left, it fits limit and slice
+pub left-fits : (w n : ℕ) (words : List ℕ) → noSectionLeft w n words ≡ false → (n + 1 ≤ maxSections) × (w * (n + 1) ≤ length words)
+unfolding noSectionLeft
+left-fits w n words e = go (ltb maxSections (n + 1)) (ltb (length words) (w * (n + 1))) refl refl e
+  where
+    go : (s t : Bool) → ltb maxSections (n + 1) ≡ s → ltb (length words) (w * (n + 1)) ≡ t → (s || t) ≡ false → (n + 1 ≤ maxSections) × (w * (n + 1) ≤ length words)
+    go false false p q h = (ltb-false maxSections (n + 1) p, ltb-false (length words) (w * (n + 1)) q)
+    go false true p q h = absurd (true≢false h)
+    go true t p q h = absurd (true≢false h)
+
+-- three stores are the record written over the words from i on
+pub three-stores :
+    (l : List ℕ) (i : ℕ) (r : StoredSection) → i + 3 ≤ length l
+    → set (set (set l i (r .kind)) (i + 1) (r .first)) (i + 2) (r .second) ≡ over l i (recordWords 3 r)
+three-stores l i r h = rw (add-one i, add-two i) (sets-eq (r .kind ∷ r .first ∷ r .second ∷ []) l i h ∙ append-assoc (take i l) (r .kind ∷ r .first ∷ r .second ∷ []) (drop (i + 3) l))
