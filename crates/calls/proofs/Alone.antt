@@ -42,6 +42,15 @@ module _ (w : ℕ) (x : StoredSection) (st : Store) where
     unfolding wordsReply wordsAfter
     words-appended f = (rw (sound, f), rw (sound, f))
 
+  -- no way writes bytes
+  pub words-keep-bytes : wordsAfter w x st .bytes ≡ st .bytes
+  unfolding wordsAfter
+  words-keep-bytes = go (wordsReply w x st)
+    where
+      go : (r : BuiltReply) → ifStored r (withWords w x st) st .bytes ≡ st .bytes
+      go (accepted a) = refl
+      go (refused n i k) = refl
+
 -- ---- the section whose words they are
 
 alone-bytes : (s : Section) → StandsAlone s → bytesOf s ≡ []

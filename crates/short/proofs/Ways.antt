@@ -1,0 +1,145 @@
+-- The short ways come to what adding the section gives: a store that a test took is sound and has room, and what is then written is what
+-- the definition says. Assumes nothing.
+use Prim.Native.Nat.{ℕ, _+_, _*_, _-_, _/_, _%_, _^_, _≤_, _<_, min}
+use native.Mathlib.Omega.{arith}
+use mathlib.Core.Path.{_≡_, refl, sym, ap, _∙_}
+use mathlib.Core.Bool.{Bool, true, false, cond, and-false}
+use mathlib.Core.List.{List, [], _∷_}
+use lib.Dec.{leb, ltb, eqb}
+use lib.ListN.{length, set}
+use borrow.Author.Tests.{le-leb, le-ltb, lt-ltb, eq-eqb, ne-eqb, eqb-true, eqb-false}
+use Rattle.records.specs.Record.{opsKind, dataKind}
+use Rattle.records.specs.Store.{Store, maxBytes, maxSections, sectionWords, badCounts, wordsPerSection}
+use Rattle.records.specs.Damage.{brokenLast, lastBroken, badCountBuilding, lastSoundness}
+use Rattle.records.specs.Sections.{Section, ops}
+use Rattle.records.specs.declared.record.StoredSection.{StoredSection}
+use Rattle.records.specs.declared.damage.Soundness.the-variants.{Sound}
+use Rattle.slices.specs.Over.{over}
+use Rattle.slices.proofs.Over.{over-one}
+use Rattle.calls.specs.Calls.{BuiltReply, bytesOf, extends, recordWords, bytesPass, joins, noSectionLeft}
+use Rattle.calls.specs.Alone.{storedSection}
+use Rattle.calls.proofs.Rooms.{left-slice}
+use Rattle.calls.proofs.Alone.{words-appended, words-keep-bytes}
+use Rattle.numbers.specs.Numbers.{packed, storeIn, builtNumber}
+use Rattle.numbers.proofs.Adds.{add-joined, add-appended}
+use Rattle.short.specs.Tried.{Tried, TriedSection, TriedWords, dataSection, spanSection}
+use Rattle.short.specs.Tests.{Takes, Extends, Begins, endMoved}
+use Rattle.short.proofs.Whole.{whole-bytes}
+
+-- ---- the two answers
+
+-- the test said no
+pub nothing-tried : {reply : BuiltReply} {after before : Store} → Tried reply after before 0 (before .bytes) (before .words)
+nothing-tried = record { left = λ _. (refl, refl); done = λ n. absurd (n refl) }
+
+-- it said yes, and the next state is no 0
+pub all-done : {reply : BuiltReply} {after before : Store} {answer : ℕ} {bytes words : List ℕ} → 0 < answer
+    → (answer ≡ builtNumber reply) × ((bytes ≡ after .bytes) × (words ≡ after .words)) → Tried reply after before answer bytes words
+all-done h all = record { left = λ z. absurd (omega (arith, h, z)); done = λ _. all }
+
+-- the answer and the slices as the code has them
+pub tried-as : {reply : BuiltReply} {after before : Store} {answer answer′ : ℕ} {bytes bytes′ words words′ : List ℕ}
+    → answer ≡ answer′ → bytes ≡ bytes′ → words ≡ words′ → Tried reply after before answer′ bytes′ words′ → Tried reply after before answer bytes words
+tried-as a b c all = rw (a, b, c) all
+
+-- ---- stores that the tests took
+
+module _ (st : Store) where
+  -- counts within slices and limits, and a last section that isn't broken
+  sound-by :
+      0 < st .sections → st .storedBytes ≤ length (st .bytes) → st .storedBytes ≤ maxBytes → st .sections ≤ maxSections → wordsPerSection * st .sections ≤ length (st .words)
+      → brokenLast (sectionWords wordsPerSection st (st .sections - 1)) (st .storedBytes) ≡ false → lastSoundness wordsPerSection st ≡ Sound
+  unfolding lastSoundness badCountBuilding badCounts lastBroken
+  sound-by some held limit few fit last =
+      let a : leb (st .storedBytes) (length (st .bytes)) ≡ true = le-leb _ _ held in
+      let b : leb (st .storedBytes) maxBytes ≡ true = le-leb _ _ limit in
+      let c : leb (st .sections) maxSections ≡ true = le-leb _ _ few in
+      let d : leb (wordsPerSection * st .sections) (length (st .words)) ≡ true = le-leb _ _ fit in
+      let n : eqb (st .sections) 0 ≡ false = ne-eqb _ 0 (λ (z : st .sections ≡ 0). omega (arith, some)) in
+      let s : ltb 0 (st .sections) ≡ true = lt-ltb _ _ some in
+      rw (a, b, c, d, n, and-false (ltb 0 (st .storedBytes)), s, last)
+
+  module _ (t : Takes wordsPerSection st) where
+    takes-sound : lastSoundness wordsPerSection st ≡ Sound
+    takes-sound = sound-by (t .some) (t .held) (t .limit) (omega (arith, t .few)) (omega (arith, t .free)) (t .last)
+
+    takes-free : noSectionLeft wordsPerSection (st .sections) (st .words) ≡ false
+    takes-free =
+        sym (left-slice wordsPerSection (st .sections) (st .words) (omega (arith, t .few)))
+        ∙ le-ltb (length (st .words)) (wordsPerSection * (st .sections + 1)) (t .free)
+
+  module _ (k n : ℕ) (e : Extends wordsPerSection k n st) where
+    -- fewer bytes are taken too
+    pub extends-fewer : (m : ℕ) → m ≤ n → Extends wordsPerSection k m st
+    extends-fewer m l =
+        record {
+          room = omega (arith, e .room, l);
+          limit = omega (arith, e .limit, l);
+          few = e .few;
+          some = e .some;
+          wordsFit = e .wordsFit;
+          last = e .last;
+        }
+
+    extends-sound : 0 < k → k < 3 → lastSoundness wordsPerSection st ≡ Sound
+    extends-sound l h =
+        let x = sectionWords wordsPerSection st (st .sections - 1) in
+        let some : 0 < x .kind = omega (arith, l, e .last .isKind) in
+        let few : x .kind < 3 = omega (arith, h, e .last .isKind) in
+        sound-by (e .some) (omega (arith, e .room)) (omega (arith, e .limit)) (e .few) (e .wordsFit)
+        (whole-bytes x (st .storedBytes) some few (e .last .starts) (e .last .ends))
+
+-- ---- what is written, by a state's number
+
+module _ (state : ℕ) (bytes words : List ℕ) where
+  abbrev here : Store
+  here = storeIn state bytes words
+
+  -- bytes behind those of the last section
+  bytes-extended :
+      (s : Section) (k : ℕ) → 0 < k → k < 3 → ((kind : ℕ) → extends kind s ≡ eqb kind k) → Extends wordsPerSection k (length (bytesOf s)) here
+      → TriedSection s here (state + length (bytesOf s)) (over bytes (state % 2 ^ 32) (bytesOf s)) (endMoved wordsPerSection state words (length (bytesOf s)))
+  unfolding bytesPass joins
+  bytes-extended s k l h same e =
+      let n = length (bytesOf s) in
+      let kind = sectionWords wordsPerSection here (state / 2 ^ 32 - 1) .kind in
+      let room = le-ltb (min (length bytes) maxBytes) (state % 2 ^ 32 + n) (omega (arith, e .room, e .limit)) in
+      let some : ltb 0 (state / 2 ^ 32) ≡ true = lt-ltb _ _ (e .some) in
+      let kinds : eqb kind k ≡ true = eq-eqb kind k (e .last .isKind) in
+      let all = add-joined wordsPerSection s here (extends-sound here k n e l h) room (rw (some, same kind, kinds)) in
+      let next : state + n ≡ packed 0 (state / 2 ^ 32) (state % 2 ^ 32 + n) = omega arith in
+      all-done (omega (arith, e .some)) (next ∙ all .0, all .1)
+
+  -- op bytes or data, by the kind
+  pub span-extended :
+      (k : ℕ) (bs : List ℕ) → 0 < k → k < 3 → Extends wordsPerSection k (length bs) here
+      → TriedSection (spanSection k bs) here (state + length bs) (over bytes (state % 2 ^ 32) bs) (endMoved wordsPerSection state words (length bs))
+  span-extended k bs l h e = go (eqb k dataKind) refl
+    where
+      go : (t : Bool) → eqb k dataKind ≡ t
+          → TriedSection (cond t (dataSection bs) (ops bs)) here (state + length bs) (over bytes (state % 2 ^ 32) bs) (endMoved wordsPerSection state words (length bs))
+      go true t = bytes-extended (dataSection bs) k l h (λ kind. ap (eqb kind) (sym (eqb-true k dataKind t))) e
+      go false t =
+          let isOps : opsKind ≡ k = omega (arith, eqb-false k dataKind t) in
+          bytes-extended (ops bs) k l h (λ kind. ap (eqb kind) isOps) e
+
+  -- an op byte that begins a section
+  pub op-begun : (op : ℕ) → Begins wordsPerSection here
+      → TriedSection (ops (op ∷ [])) here (state + 2 ^ 32 + 1) (set bytes (state % 2 ^ 32) op)
+      (over words (wordsPerSection * (state / 2 ^ 32)) (recordWords wordsPerSection (storedSection opsKind (state % 2 ^ 32) (state % 2 ^ 32 + 1))))
+  unfolding bytesPass joins
+  op-begun op b =
+      let kind = sectionWords wordsPerSection here (state / 2 ^ 32 - 1) .kind in
+      let room = le-ltb (min (length bytes) maxBytes) (state % 2 ^ 32 + 1) (omega (arith, b .room, b .limit)) in
+      let apart : eqb kind opsKind ≡ false = ne-eqb kind opsKind (b .apart) in
+      let all = add-appended wordsPerSection (ops (op ∷ [])) here (takes-sound here (b .takes)) room (rw apart (and-false (ltb 0 (state / 2 ^ 32)))) (takes-free here (b .takes)) in
+      let next : state + 2 ^ 32 + 1 ≡ packed 0 (state / 2 ^ 32 + 1) (state % 2 ^ 32 + 1) = omega arith in
+      all-done (omega arith) (next ∙ all .0, (over-one bytes (state % 2 ^ 32) op (b .room) ∙ all .1 .0, all .1 .1))
+
+  -- three words after a last section
+  pub words-put : (x : StoredSection) → Takes wordsPerSection here
+      → TriedWords x here (state + 2 ^ 32) bytes (over words (wordsPerSection * (state / 2 ^ 32)) (recordWords wordsPerSection x))
+  words-put x t =
+      let all = words-appended wordsPerSection x here (takes-sound here t) (takes-free here t) in
+      let next : state + 2 ^ 32 ≡ packed 0 (state / 2 ^ 32 + 1) (state % 2 ^ 32) = omega arith in
+      all-done (omega arith) (next ∙ ap builtNumber (all .0), (sym (words-keep-bytes wordsPerSection x here), all .1))
