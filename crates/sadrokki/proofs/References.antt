@@ -11,7 +11,8 @@ use Rattle.units.specs.declared.AsmReference.{AsmReference}
 use Rattle.units.specs.declared.RefSize.the-variants.{S1, S2, S3, S4}
 use Rattle.units.specs.declared.SetSize.{SetSize}
 use Rattle.units.specs.declared.SetSize.the-variants.{Unsized, Sized}
-use Rattle.records.specs.Record.{maxMark, sizeNumber, setSizeOf, pushedNumber, deltaKind, wordsOfRef, referenceWords}
+use Rattle.records.specs.Record.{maxMark, setSizeOf, deltaKind, wordsOfRef, referenceWords}
+use Rattle.units.specs.Form.{sizeNumber, pushedNumber}
 use Rattle.records.specs.declared.record.StoredSection.{StoredSection}
 use Rattle.records.specs.Store.{Store, wordsPerSection}
 use Rattle.calls.specs.Calls.{pushMark, pushReference, namesLargeMark, pushReply, pushAfter, wordsOf}

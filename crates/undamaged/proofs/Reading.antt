@@ -21,7 +21,8 @@ use Rattle.records.specs.declared.record.AsmSection.the-variants.{Mark, Ops, Da
 use Rattle.records.specs.declared.record.SectionRead.{SectionRead}
 use Rattle.records.specs.declared.record.SectionRead.the-variants.{Read, Damaged}
 use Rattle.records.specs.declared.record.StoredSection.{StoredSection}
-use Rattle.records.specs.Record.{maxMark, markKind, opsKind, dataKind, directKind, pushedDeltaKind, rawDeltaKind, sizeNumber, pushedNumber, deltaKind, setSizeOf, readMark, span, readSpan, readDirect, readDelta, readSection, wordsOfRef}
+use Rattle.records.specs.Record.{maxMark, markKind, opsKind, dataKind, directKind, pushedDeltaKind, rawDeltaKind, deltaKind, setSizeOf, readMark, span, readSpan, readDirect, readDelta, readSection, wordsOfRef}
+use Rattle.units.specs.Form.{sizeNumber, pushedNumber}
 use Rattle.records.specs.Damage.{unreadable, isSpan}
 use Rattle.records.specs.Sections.{mark, ops, bytes, reference, sectionRead}
 use Rattle.slices.proofs.Tests.{cond-case}
