@@ -1,6 +1,7 @@
 pub mod Digits
 pub mod Puts
 pub mod Turns
+pub mod Rooms
 pub mod Lengths
 pub mod Every
 pub mod SectionLines

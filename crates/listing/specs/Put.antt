@@ -19,9 +19,9 @@ pub record Put (before : List ℕ) (at : ℕ) (added : List ℕ) (next : ℕ) (a
   pub count : next ≡ at + length added
   pub text : after ≡ sets before at added
 
--- the place after `added`, put from `at` on, is a number that the machine has
-abbrev pub Room : ℕ → List ℕ → Type 0
-Room at added = at + length added < 2 ^ 64
+-- there is room for `added` from `at` on: the place after it is a number that the machine has
+pub record Room (at : ℕ) (added : List ℕ) : Type 0 where
+  pub fits : at + length added < 2 ^ 64
 
 -- the text of the section that three words are
 abbrev pub wordsText : List ℕ → StoredSection → List ℕ
