@@ -33,7 +33,8 @@ pub(crate) fn write_code(
 )
     requires { ⌜ wordsPerSection * (store .sections) ≤ length (now words) ⌝ }
     requires { ⌜ ((i : ℕ) → i < store .sections → Writable (now bytes) (now table) (wordsAt wordsPerSection (now words) i)) ⌝ }
-    requires { ⌜ Fits (now result) position (codeOf (entry (now table)) (decode wordsPerSection (storeOf store (now bytes) (now words)))) ⌝ }
+    requires { ⌜ Fits (now result) position
+        (codeOf (entry (now table)) (decode wordsPerSection (storeOf store (now bytes) (now words)))) ⌝ }
     ensures { λ _.
         ⌜ now (result .exit)
         ≡ over (now (result .entry)) position
