@@ -1,31 +1,31 @@
 -- Laws for `assemble`: one for each way that it goes, each giving the whole contract. Assumes nothing.
 use Prim.Native.Nat.{ℕ, _+_, _≤_}
 use native.Mathlib.Omega.{arith}
-use mathlib.Core.Path.{_≡_, refl, sym, ap, _∙_, subst}
+use mathlib.Core.Path.{_≡_, refl, sym, ap, ap₂, _∙_, subst}
 use mathlib.Core.Bool.{true, false}
 use mathlib.Core.List.{List}
 use lib.ListN.{length, replicate}
 use Rattle.units.specs.declared.reply.Refusal.{Refusal}
-use Rattle.units.specs.declared.reply.Refusal.the-variants.{ResultFull}
+use Rattle.units.specs.Replies.{resultFull}
+use Rattle.units.specs.Reply.{Reply, refused, refusalReply}
 use Rattle.records.specs.Store.{Store}
 use Rattle.records.specs.Sections.{decode}
 use Rattle.slices.specs.Over.{over}
 use Rattle.layout.specs.Passes.{entry}
-use Rattle.layout.specs.Answer.{Answer, laidOut, refused as noLayout}
-use Rattle.settling.specs.Settle.{settleAnswer, settledOf, tableAfter}
-use Rattle.settling.specs.declared.Settled.the-variants.{LaidOut, Refused}
+use Rattle.layout.specs.Answer.{Laid}
+use Rattle.settling.specs.Settle.{settling}
 use Rattle.emission.specs.Emission.{codeOf}
-use Rattle.assembler.specs.Assemble.{Reply, written, refusalReply, Outcome, refusal, isFull, assembly}
+use Rattle.assembler.specs.Assemble.{written, Outcome, refusal, isFull, assembly}
 use Rattle.assembler.specs.Demand3.{Demand3}
 use Rattle.assembler.specs.Instructions.{CodePushes}
-use Rattle.assembler.proofs.Laid.{laid}
-use Rattle.assembler.proofs.Outcomes.{outcome-refused, outcome-full, outcome-written, fits-law}
+use Rattle.assembler.proofs.Laid.{refused-table, laid}
+use Rattle.assembler.proofs.Outcomes.{LaidBy, outcome-refused, outcome-full, outcome-written, fits-law}
 use Rattle.assembler.proofs.Demand3.{demand-3-assembly}
 use Rattle.assembler.proofs.Instructions.{assembly-pushes}
 
 module _ (w : ℕ) (st : Store) (n : ℕ) (result : List ℕ) (position : ℕ) where
   -- the contract, of an answer, a table and a result
-  abbrev pub Kept : Reply → List ℕ → List ℕ → Type 0
+  abbrev pub Kept : Reply Laid → List ℕ → List ℕ → Type 0
   Kept reply table′ result′ =
       (reply ≡ assembly w st n result position .reply)
       × ((table′ ≡ assembly w st n result position .table)
@@ -50,34 +50,22 @@ module _ (w : ℕ) (st : Store) (n : ℕ) (result : List ℕ) (position : ℕ) w
   )
 
   -- 6 to 12
-  pub kept-refused : (r : Refusal) (table′ : List ℕ) → settledOf (settleAnswer w n st) ≡ Refused r → table′ ≡ tableAfter n (settleAnswer w n st)
+  pub kept-refused : (r : Refusal) (table′ : List ℕ) → refusalReply r ≡ settling w n st .reply → table′ ≡ settling w n st .table
       → Kept (refusalReply r) table′ result
-  kept-refused r table′ e t = go (settleAnswer w n st) refl e t
-    where
-      go : (a : Answer) → settleAnswer w n st ≡ a → settledOf a ≡ Refused r → table′ ≡ tableAfter n a → Kept (refusalReply r) table′ result
-      go (laidOut table size k) h f g = let z : _≡_ {A = ℕ} 0 1 = cc in absurd (omega arith)
-      go (noLayout r′) h f g =
-          let same : r′ ≡ r = cc in
-          subst (λ (x : List ℕ). Kept (refusalReply r) x result) (sym g) (kept (refusal n result r) (outcome-refused w st n result position r (h ∙ ap noLayout same)))
+  kept-refused r table′ e t =
+      subst (λ (x : List ℕ). Kept (refusalReply r) x result) (sym (t ∙ refused-table w n st _ _ _ (sym e)))
+      (kept (refusal n result (refusalReply r)) (outcome-refused w st n result position _ _ _ (sym e)))
 
   -- laid out
-  pub laid-table : (size k : ℕ) (table′ : List ℕ) → settledOf (settleAnswer w n st) ≡ LaidOut size k → table′ ≡ tableAfter n (settleAnswer w n st)
-      → settleAnswer w n st ≡ laidOut table′ size k
-  laid-table size k table′ e t = go (settleAnswer w n st) refl e t
-    where
-      go : (a : Answer) → settleAnswer w n st ≡ a → settledOf a ≡ LaidOut size k → table′ ≡ tableAfter n a → settleAnswer w n st ≡ laidOut table′ size k
-      go (laidOut table s q) h f g =
-          let a : s ≡ size = cc in
-          let b : q ≡ k = cc in
-          cc
-      go (noLayout r) h f g = let z : _≡_ {A = ℕ} 0 1 = cc in absurd (omega arith)
+  pub laid-table : (size k : ℕ) (table′ : List ℕ) → written size k ≡ settling w n st .reply → table′ ≡ settling w n st .table → LaidBy w n st table′ size k
+  laid-table size k table′ e t = ap₂ (λ (r : Reply Laid) (x : List ℕ). record { reply = r; table = x }) (sym e) (sym t)
 
-  module _ (table : List ℕ) (size k : ℕ) (e : settleAnswer w n st ≡ laidOut table size k) where
+  module _ (table : List ℕ) (size k : ℕ) (e : LaidBy w n st table size k) where
     -- 13
-    pub kept-full : (table′ : List ℕ) → isFull (length result) position size ≡ true → table′ ≡ replicate n 0 → Kept (refusalReply (ResultFull k)) table′ result
+    pub kept-full : (table′ : List ℕ) → isFull (length result) position size ≡ true → table′ ≡ replicate n 0 → Kept (refused resultFull 0 k) table′ result
     kept-full table′ f z =
-        subst (λ (x : List ℕ). Kept (refusalReply (ResultFull k)) x result) (sym z)
-        (kept (refusal n result (ResultFull k)) (outcome-full w st n result position table size k e f))
+        subst (λ (x : List ℕ). Kept (refused resultFull 0 k) x result) (sym z)
+        (kept (refusal n result (refused resultFull 0 k)) (outcome-full w st n result position table size k e f))
 
     module _ (f : isFull (length result) position size ≡ false) where
       -- the code fits

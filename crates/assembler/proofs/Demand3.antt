@@ -9,7 +9,7 @@ use lib.Seq.{slice, slice-empty}
 use Rattle.units.specs.Replies.{tooNarrow}
 use Rattle.units.specs.declared.MarkReference.{MarkReference}
 use Rattle.units.specs.declared.MarkReference.the-variants.{Direct, Delta}
-use Rattle.units.specs.declared.reply.Refusal.the-variants.{TooNarrow}
+use Rattle.units.specs.Reply.{refused}
 use Rattle.records.specs.Store.{Store}
 use Rattle.records.specs.Sections.{Section, mark, ops, bytes, reference, decode}
 use Rattle.slices.specs.Over.{over}
@@ -19,21 +19,21 @@ use Rattle.undamaged.proofs.Soundness.{undamaged-iff}
 use Rattle.layout.specs.Layout.{Layout, inAll, GivesEnough}
 use Rattle.layout.specs.Passes.{entry, Settling, settled, narrowAt, unsettled, settle}
 use Rattle.layout.specs.Conditions.{sectionAt, Never, refers, backwardBy, backwardAt, isDelta, deltaAt, Premise}
-use Rattle.layout.specs.Answer.{laidOut}
-use Rattle.layout.specs.Answer as layout
+use Rattle.layout.specs.Answer.{laidOut, noLayout, tooNarrow as narrowRefusal}
 use Rattle.layout.specs.Shortest as list
 use Rattle.layout.proofs.Answers.{settle-law, answer-law}
 use Rattle.layout.proofs.Demand3.{demand-3}
-use Rattle.settling.specs.Settle.{settleAnswer}
+use Rattle.records.specs.declared.damage.Soundness.the-variants.{Sound}
+use Rattle.settling.specs.Settle.{Settlement, settlement, settling}
 use Rattle.settling.proofs.Sections.{stored-is}
 use Rattle.emission.specs.Emission.{codeOf, writtenLayout}
 use Rattle.emission.proofs.Lengths.{written-settled}
 use Rattle.emission.proofs.Places.{still-sum, sizes-five}
-use Rattle.assembler.specs.Assemble.{written, refused, Outcome, assembly}
+use Rattle.assembler.specs.Assemble.{written, Outcome, assembly}
 use Rattle.assembler.specs.Demand3.{Given, Written, Shortest, Demand3}
 use Rattle.assembler.proofs.Decoded.{stored-small}
 use Rattle.assembler.proofs.Laid.{sound-settles, laid}
-use Rattle.assembler.proofs.Outcomes.{outcome-refused, outcome-written, fits-law}
+use Rattle.assembler.proofs.Outcomes.{LaidBy, written-same, outcome-refused, outcome-written, fits-law}
 
 -- a direct reference is never backward
 direct-forward : (table : List ℕ) (r : MarkReference) → isDelta r ≡ false → backwardBy table r ≡ false
@@ -85,17 +85,18 @@ module _ (w : ℕ) (st : Store) (n : ℕ) (result : List ℕ) (position : ℕ) (
   shortest = demand-3 n ss premise
 
   -- settled, it is laid out
-  laid-out : (table : List ℕ) (size k : ℕ) → settle n ss ≡ settled table size k → settleAnswer w n st ≡ laidOut table size k
+  laid-out : (table : List ℕ) (size k : ℕ) → settle n ss ≡ settled table size k → LaidBy w n st table size k
   laid-out table size k e =
       sound-settles w n st (given .undamaged)
-      ∙ answer-law n ss (laidOut table size k) .1
-      ((given .inTable, given .marksPlaced, given .together), settle-law n ss (settled table size k) .0 e, never-backward table ss (given .direct))
+      ∙ ap (settlement n Sound)
+      (answer-law n ss (laidOut table size k) .1
+      ((given .inTable, given .marksPlaced, given .together), settle-law n ss (settled table size k) .0 e, never-backward table ss (given .direct)))
 
   -- too narrow, it is refused with 10
-  narrow : (i k : ℕ) → settle n ss ≡ narrowAt i k → settleAnswer w n st ≡ layout.refused (TooNarrow i k)
+  narrow : (i k : ℕ) → settle n ss ≡ narrowAt i k → settling w n st .reply ≡ refused tooNarrow i k
   narrow i k e =
-      sound-settles w n st (given .undamaged)
-      ∙ answer-law n ss (layout.refused (TooNarrow i k)) .1 ((given .inTable, given .marksPlaced, given .together), settle-law n ss (narrowAt i k) .0 e)
+      let found = answer-law n ss (noLayout (narrowRefusal i k)) .1 ((given .inTable, given .marksPlaced, given .together), settle-law n ss (narrowAt i k) .0 e) in
+      ap (λ (s : Settlement). s .reply) (sound-settles w n st (given .undamaged) ∙ ap (settlement n Sound) found)
 
   -- what is answered and left where it is settled
   abbrev writes : List ℕ → ℕ → ℕ → Outcome
@@ -116,7 +117,7 @@ module _ (w : ℕ) (st : Store) (n : ℕ) (result : List ℕ) (position : ℕ) (
 
   -- it is refused
   refuses-it : (i k : ℕ) → settle n ss ≡ narrowAt i k → assembly w st n result position ≡ refuses i k
-  refuses-it i k e = outcome-refused w st n result position (TooNarrow i k) (narrow i k e)
+  refuses-it i k e = outcome-refused w st n result position tooNarrow i k (narrow i k e)
 
   -- what demand 3 says of an outcome
   abbrev Met : Outcome → Type 0
@@ -150,8 +151,8 @@ module _ (w : ℕ) (st : Store) (n : ℕ) (result : List ℕ) (position : ℕ) (
           λ h. let q : written size k ≡ refused tooNarrow (h .0) (h .1) = h .2 in let z : _≡_ {A = ℕ} 0 1 = cc in absurd (omega arith),
         );
         ifWritten = λ size′ k′ h.
-            let a : size ≡ size′ = cc in
-            let b : k ≡ k′ = cc in
+            let a : size ≡ size′ = written-same h .0 in
+            let b : k ≡ k′ = written-same h .1 in
             subst (λ (x : ℕ). Written ss n result position size′ x table (over result position (codeOf (entry table) ss))) b
             (subst (λ (x : ℕ). Written ss n result position x k table (over result position (codeOf (entry table) ss))) a (written-code table size k e));
         ifNarrow = λ i′ k′ h. let z : _≡_ {A = ℕ} 0 1 = cc in absurd (omega arith);

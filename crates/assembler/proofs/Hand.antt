@@ -17,7 +17,7 @@ use Rattle.layout.specs.Passes.{startFrom, start, walkFrom, pass, passes, settl
 use Rattle.layout.specs.Conditions.{placed, shortAt, firstShort, unplacedAt, firstUnplaced, someBytes, apartAt, firstApart, backwardAt, firstBackward, sumOf, deltaAt}
 use Rattle.layout.specs.Answer.{answer}
 use Rattle.layout.proofs.Least.{never-law}
-use Rattle.settling.specs.Settle.{settleAnswer}
+use Rattle.settling.specs.Settle.{settling}
 use Rattle.assembler.specs.Assemble.{written, assembly}
 use Rattle.assembler.specs.Demand3.{Given}
 use Rattle.assembler.proofs.Demand3.{demand-3-assembly}
@@ -38,7 +38,7 @@ result = replicate 259 0
 
 -- the answer: 257 bytes, 3 passes
 pub line-7-reply : assembly 3 store 1 result 0 .reply ≡ written 257 3
-unfolding assembly settleAnswer wholeSoundness badCount badCounts brokenReply breaksRule endBefore spansEnd leastFrom decode decodeFrom decodeAt readSection readMark readSpan readDirect readDelta setSizeOf answer settle passes pass walkFrom start startFrom firstShort shortAt firstUnplaced unplacedAt firstApart apartAt firstBackward backwardAt placed someBytes leastSize size tooNarrow heldBytes
+unfolding assembly settling wholeSoundness badCount badCounts brokenReply breaksRule endBefore spansEnd leastFrom decode decodeFrom decodeAt readSection readMark readSpan readDirect readDelta setSizeOf answer settle passes pass walkFrom start startFrom firstShort shortAt firstUnplaced unplacedAt firstApart apartAt firstBackward backwardAt placed someBytes leastSize size tooNarrow heldBytes
 line-7-reply = refl
 
 -- the premise of demand 3 is met

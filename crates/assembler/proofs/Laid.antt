@@ -7,11 +7,12 @@ use mathlib.Core.Path.{_≡_, refl, sym, ap, _∙_}
 use mathlib.Core.Bool.{true, false, true≢false}
 use mathlib.Core.List.{List}
 use lib.Dec.{leb}
-use lib.ListN.{length}
+use lib.ListN.{length, replicate}
 use borrow.Author.Tests.{leb-false, ltb-false}
 use Rattle.units.specs.declared.MarkReference.{MarkReference}
 use Rattle.units.specs.declared.MarkReference.the-variants.{Direct, Delta}
 use Rattle.units.specs.declared.AsmReference.{AsmReference}
+use Rattle.units.specs.Reply.{refused}
 use Rattle.records.specs.Record.{readSection}
 use Rattle.records.specs.Store.{Store, sectionWords}
 use Rattle.records.specs.Damage.{unreadable, isSpan, wholeSoundness}
@@ -23,7 +24,7 @@ use Rattle.records.specs.declared.record.SectionRead.{SectionRead}
 use Rattle.records.specs.declared.record.SectionRead.the-variants.{Read}
 use Rattle.layout.specs.Passes.{entry, settled, settle}
 use Rattle.layout.specs.Conditions.{sectionAt, placesSome, someMark, namesSome, shortAt, backwardBy, backwardAt}
-use Rattle.layout.specs.Answer.{laidOut, answer, Says}
+use Rattle.layout.specs.Answer.{Answer, laidOut, noLayout, answer, Says}
 use Rattle.layout.proofs.Answers.{settle-law, answer-law}
 use Rattle.layout.proofs.Moves.{Still, or-false}
 use Rattle.layout.proofs.Rule.{Sizes}
@@ -31,27 +32,46 @@ use Rattle.layout.proofs.Today.{today}
 use Rattle.undamaged.specs.View.{Undamaged, Facts}
 use Rattle.undamaged.proofs.Reading.{View, unread, as-ops, as-data, as-mark, as-reference, view}
 use Rattle.undamaged.proofs.Soundness.{undamaged-iff}
-use Rattle.settling.specs.Settle.{soundAnswer, settleAnswer}
+use Rattle.settling.specs.Settle.{Settlement, settlement, settling}
 use Rattle.settling.proofs.Sections.{decode-count, span-end}
 use Rattle.emission.specs.Emission.{codeOf}
 use Rattle.emission.proofs.Lengths.{length-code}
 use Rattle.emission.proofs.Places.{settled-still, still-sum}
+use Rattle.assembler.specs.Assemble.{written}
 use Rattle.assembler.specs.Writing.{MarksIn, WritableRead}
 use Rattle.assembler.proofs.Decoded.{decode-reference}
+use Rattle.assembler.proofs.Outcomes.{LaidBy, written-same}
 
 -- an undamaged store is answered by its sections
-pub sound-settles : (w n : ℕ) (st : Store) → Undamaged w st → settleAnswer w n st ≡ answer n (decode w st)
-unfolding settleAnswer
+pub sound-settles : (w n : ℕ) (st : Store) → Undamaged w st → settling w n st ≡ settlement n Sound (answer n (decode w st))
+unfolding settling
 sound-settles w n st u = rw u
 
--- and only an undamaged one is laid out
-laid-sound : (w n : ℕ) (st : Store) (table : List ℕ) (size k : ℕ) → settleAnswer w n st ≡ laidOut table size k → Undamaged w st
-unfolding settleAnswer
-laid-sound w n st table size k e = go (wholeSoundness w st) refl e
+-- a refused one leaves the table all 0
+pub refused-table : (w n : ℕ) (st : Store) (number i k : ℕ) → settling w n st .reply ≡ refused number i k → settling w n st .table ≡ replicate n 0
+unfolding settling
+refused-table w n st number i k e = go (wholeSoundness w st) (answer n (decode w st)) e
   where
-    go : (s : Soundness) → wholeSoundness w st ≡ s → soundAnswer s (answer n (decode w st)) ≡ laidOut table size k → wholeSoundness w st ≡ Sound
-    go Sound h f = h
-    go (Damaged i) h f = let z : _≡_ {A = ℕ} 0 1 = cc in absurd (omega arith)
+    go : (s : Soundness) (a : Answer) → settlement n s a .reply ≡ refused number i k → settlement n s a .table ≡ replicate n 0
+    go (Damaged j) a f = refl
+    go Sound (noLayout r) f = refl
+    go Sound (laidOut t l p) f = let z : _≡_ {A = ℕ} 0 1 = cc in absurd (omega arith)
+
+-- and only an undamaged one is laid out
+laid-sound : (w n : ℕ) (st : Store) (table : List ℕ) (size k : ℕ) → LaidBy w n st table size k
+    → Undamaged w st × (answer n (decode w st) ≡ laidOut table size k)
+unfolding settling
+laid-sound w n st table size k e = go (wholeSoundness w st) (answer n (decode w st)) refl refl e
+  where
+    go : (s : Soundness) (a : Answer) → wholeSoundness w st ≡ s → answer n (decode w st) ≡ a → settlement n s a ≡ record { reply = written size k; table = table }
+        → Undamaged w st × (answer n (decode w st) ≡ laidOut table size k)
+    go (Damaged i) a h g f = let q = ap (λ (x : Settlement). x .reply) f in let z : _≡_ {A = ℕ} 0 1 = cc in absurd (omega arith)
+    go Sound (noLayout r) h g f = let q = ap (λ (x : Settlement). x .reply) f in let z : _≡_ {A = ℕ} 0 1 = cc in absurd (omega arith)
+    go Sound (laidOut t l p) h g f =
+        let a : t ≡ table = ap (λ (x : Settlement). x .table) f in
+        let b : l ≡ size = written-same (ap (λ (x : Settlement). x .reply) f) .0 in
+        let c : p ≡ k = written-same (ap (λ (x : Settlement). x .reply) f) .1 in
+        (h, cc)
 
 -- a reference that 7 and 12 don't refuse can be read from the table
 marks-in : (n : ℕ) (table : List ℕ) (r : MarkReference) → length table ≡ n → someMark (leb n) r ≡ false → backwardBy table r ≡ false → MarksIn table r
@@ -78,7 +98,7 @@ section-marks n table ss i r e is h b =
     marks-in n table (r .«mark_ref») e (rw is at q) (rw is at b)
 
 -- what is known
-pub record Laid (w n : ℕ) (st : Store) (table : List ℕ) (size k : ℕ) : Type 0 where
+pub record LaidFacts (w n : ℕ) (st : Store) (table : List ℕ) (size k : ℕ) : Type 0 where
   pub undamaged : Undamaged w st
   pub facts : Facts w st
   pub says : Says n (decode w st) (laidOut table size k)
@@ -90,12 +110,13 @@ pub record Laid (w n : ℕ) (st : Store) (table : List ℕ) (size k : ℕ) : Typ
   pub writable : (i : ℕ) → i < st .sections → WritableRead (st .bytes) table (readSection (sectionWords w st i))
 
 -- it is known
-pub laid : (w n : ℕ) (st : Store) (table : List ℕ) (size k : ℕ) → settleAnswer w n st ≡ laidOut table size k → Laid w n st table size k
+pub laid : (w n : ℕ) (st : Store) (table : List ℕ) (size k : ℕ) → LaidBy w n st table size k → LaidFacts w n st table size k
 laid w n st table size k e =
     let ss : List Section = decode w st in
-    let u : Undamaged w st = laid-sound w n st table size k e in
+    let known = laid-sound w n st table size k e in
+    let u : Undamaged w st = known .0 in
     let f : Facts w st = undamaged-iff w st .0 u in
-    let s : Says n ss (laidOut table size k) = answer-law n ss (laidOut table size k) .0 (sym (sound-settles w n st u) ∙ e) in
+    let s : Says n ss (laidOut table size k) = answer-law n ss (laidOut table size k) .0 (known .1) in
     let t : settle n ss ≡ settled table size k = settle-law n ss (settled table size k) .1 (s .1) in
     let q = settled-still n ss table size k (s .0 .0) t in
     record {

@@ -1,25 +1,22 @@
 -- What assembly, as defined, leaves in the lent table and result. Assumes nothing.
 use Prim.Native.Nat.{ℕ, _+_, _≤_}
 use native.Mathlib.Omega.{arith}
-use mathlib.Core.Path.{_≡_, refl, sym, subst}
-use mathlib.Core.Bool.{Bool, true, false}
+use mathlib.Core.Path.{_≡_, refl, subst}
+use mathlib.Core.Bool.{false}
 use mathlib.Core.List.{List}
 use lib.ListN.{length, drop}
-use Rattle.units.specs.declared.reply.Refusal.{Refusal}
-use Rattle.units.specs.declared.reply.Refusal.the-variants.{ResultFull}
+use Rattle.units.specs.Reply.{refused}
 use Rattle.records.specs.Store.{Store}
 use Rattle.records.specs.Sections.{decode}
 use Rattle.slices.specs.Over.{over}
 use Rattle.slices.proofs.Over.{take-over, drop-over, length-over}
 use Rattle.layout.specs.Passes.{entry}
-use Rattle.layout.specs.Answer.{Answer, laidOut, refused as noLayout}
-use Rattle.settling.specs.Settle.{settleAnswer}
 use Rattle.emission.specs.Emission.{codeOf}
 use Rattle.emission.proofs.Places.{settled-absent}
-use Rattle.assembler.specs.Assemble.{written, refused, Outcome, refusal, isFull, assembly}
+use Rattle.assembler.specs.Assemble.{written, Outcome, isFull, assembly}
 use Rattle.assembler.specs.Leaves.{LeftRefused, LeftWritten}
 use Rattle.assembler.proofs.Laid.{laid}
-use Rattle.assembler.proofs.Outcomes.{outcome-refused, outcome-full, outcome-written, fits-law}
+use Rattle.assembler.proofs.Outcomes.{LaidBy, written-same, outcome-cases, fits-law}
 
 module _ (w : ℕ) (st : Store) (n : ℕ) (result : List ℕ) (position : ℕ) where
   -- of an outcome
@@ -28,12 +25,8 @@ module _ (w : ℕ) (st : Store) (n : ℕ) (result : List ℕ) (position : ℕ) w
       ((number i k : ℕ) → o .reply ≡ refused number i k → LeftRefused n result (o .table) (o .result))
       × ((size k : ℕ) → o .reply ≡ written size k → LeftWritten (decode w st) n result position size (o .table) (o .result))
 
-  -- refused
-  leaves-refused : (r : Refusal) → Leaves (refusal n result r)
-  leaves-refused r = (λ number i k h. (refl, refl), λ size k h. let z : _≡_ {A = ℕ} 0 1 = cc in absurd (omega arith))
-
   -- written
-  leaves-written : (table : List ℕ) (size k : ℕ) → settleAnswer w n st ≡ laidOut table size k → isFull (length result) position size ≡ false
+  leaves-written : (table : List ℕ) (size k : ℕ) → LaidBy w n st table size k → isFull (length result) position size ≡ false
       → LeftWritten (decode w st) n result position size table (over result position (codeOf (entry table) (decode w st)))
   leaves-written table size k e f =
       let l = laid w n st table size k e in
@@ -47,21 +40,14 @@ module _ (w : ℕ) (st : Store) (n : ℕ) (result : List ℕ) (position : ℕ) w
         after = subst (λ (x : ℕ). drop (position + x) (over result position code) ≡ drop (position + x) result) (l .codeLong) (drop-over result position code (omega arith));
       }
 
-  -- whatever the settling answers
-  leaves : (a : Answer) → settleAnswer w n st ≡ a → Leaves (assembly w st n result position)
-  leaves (noLayout r) e = subst Leaves (sym (outcome-refused w st n result position r e)) (leaves-refused r)
-  leaves (laidOut table size k) e = go (isFull (length result) position size) refl
-    where
-      go : (b : Bool) → isFull (length result) position size ≡ b → Leaves (assembly w st n result position)
-      go true f = subst Leaves (sym (outcome-full w st n result position table size k e f)) (leaves-refused (ResultFull k))
-      go false f =
-          subst Leaves (sym (outcome-written w st n result position table size k e f)) (
-            λ number i q h. let z : _≡_ {A = ℕ} 0 1 = cc in absurd (omega arith),
-            λ size′ q h.
-                let same : size ≡ size′ = cc in
-                subst (λ (x : ℕ). LeftWritten (decode w st) n result position x table (over result position (codeOf (entry table) (decode w st)))) same (leaves-written table size k e f),
-          )
-
   -- what assembly leaves, refused or not
   pub assembly-leaves : Leaves (assembly w st n result position)
-  assembly-leaves = leaves (settleAnswer w n st) refl
+  assembly-leaves =
+      outcome-cases w st n result position Leaves
+      (λ number i k. (λ _ _ _ h. (refl, refl), λ size q h. let z : _≡_ {A = ℕ} 0 1 = cc in absurd (omega arith)))
+      (λ table size k e f. (
+        λ number i q h. let z : _≡_ {A = ℕ} 0 1 = cc in absurd (omega arith),
+        λ size′ q h.
+            let same : size ≡ size′ = written-same h .0 in
+            subst (λ (x : ℕ). LeftWritten (decode w st) n result position x table (over result position (codeOf (entry table) (decode w st)))) same (leaves-written table size k e f),
+      ))

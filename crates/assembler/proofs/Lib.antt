@@ -1,7 +1,7 @@
 pub mod Writes
 pub mod Decoded
-pub mod Laid
 pub mod Outcomes
+pub mod Laid
 pub mod Demand3
 pub mod Instructions
 pub mod Answers

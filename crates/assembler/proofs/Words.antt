@@ -17,7 +17,8 @@ use Rattle.units.specs.declared.SetSize.the-variants.{Unsized, Sized}
 use Rattle.units.specs.declared.RefSize.{RefSize}
 use Rattle.units.specs.declared.RefSize.the-variants.{S1, S2, S3, S4}
 use Rattle.units.specs.declared.AsmReference.{AsmReference}
-use Rattle.records.specs.Record.{span, sizeNumber, pushedNumber, readSection}
+use Rattle.records.specs.Record.{span, readSection}
+use Rattle.units.specs.Form.{sizeNumber, pushedNumber}
 use Rattle.records.specs.Damage.{unreadable, isSpan}
 use Rattle.records.specs.Sections.{sectionRead}
 use Rattle.records.specs.declared.record.AsmSection.the-variants.{Mark, Ops, Data, MarkRef}
@@ -25,10 +26,12 @@ use Rattle.records.specs.declared.record.SectionRead.{SectionRead}
 use Rattle.records.specs.declared.record.SectionRead.the-variants.{Read, Damaged}
 use Rattle.records.specs.declared.record.StoredSection.{StoredSection}
 use Rattle.layout.specs.Passes.{entry, valueBy}
-use Rattle.emission.specs.Emission.{byteCount, isPushZero, sectionBytes}
+use Rattle.emission.specs.Emission.{sectionBytes}
+use Rattle.units.specs.Reference.{byteCount, isPushZero}
 use Rattle.undamaged.proofs.Reading.{View, unread, as-ops, as-data, as-mark as read-mark, as-reference as read-reference, view}
 use Rattle.settling.specs.Pieces.{pieceRead}
-use Rattle.settling.specs.Words.{pieceOfWords, Readable, formNumber, formPiece}
+use Rattle.settling.specs.Words.{pieceOfWords, Readable, formPiece}
+use Rattle.units.specs.Form.{formNumber}
 use Rattle.settling.specs.declared.piece.Piece.{Piece}
 use Rattle.settling.specs.declared.piece.Piece.the-variants as piece
 use Rattle.settling.proofs.Words.{Kind, a-mark, a-block, a-direct, a-delta, kind-of, as-mark, form-size}

@@ -24,7 +24,8 @@ use Rattle.records.specs.declared.record.SectionRead.the-variants.{Read}
 use Rattle.slices.specs.Over.{over}
 use Rattle.slices.proofs.Over.{length-over}
 use Rattle.layout.specs.Passes.{entry}
-use Rattle.emission.specs.Emission.{byteCount, isPushZero, opcode, referenceBytes, sectionBytes, inARow, codeOf}
+use Rattle.emission.specs.Emission.{opcode, referenceBytes, sectionBytes, inARow, codeOf}
+use Rattle.units.specs.Reference.{byteCount, isPushZero}
 use Rattle.slices.proofs.Over.{over-nothing, over-next, over-one}
 use Rattle.assembler.specs.Assemble.{isFull}
 use Rattle.assembler.specs.Writing.{WritableRead}

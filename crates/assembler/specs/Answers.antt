@@ -5,45 +5,42 @@ use mathlib.Core.Path.{_≡_}
 use mathlib.Core.Bool.{true, false}
 use mathlib.Core.Logic.{_⊎_}
 use mathlib.Core.List.{List}
-use Rattle.units.specs.declared.reply.Refusal.{Refusal}
-use Rattle.units.specs.declared.reply.Refusal.the-variants as reply
+use Rattle.units.specs.Replies as number
+use Rattle.units.specs.Reply.{Reply, accepted, refused, numbersReply}
 use Rattle.records.specs.Store.{Store}
 use Rattle.records.specs.Sections.{decode}
 use Rattle.records.specs.Damage.{badCount}
 use Rattle.undamaged.specs.View.{Undamaged, FirstBreak}
-use Rattle.layout.specs.Answer.{laidOut, refused, Says}
-use Rattle.assembler.specs.declared.Assembled.{Assembled}
-use Rattle.assembler.specs.declared.Assembled.the-variants.{Written, Refused}
+use Rattle.layout.specs.Answer as layout
 
--- 7 to 12 over the sections of an undamaged store: Says, of layout/specs/Answer
-abbrev SettlingSays : ℕ → Store → ℕ → Refusal → Type 0
-SettlingSays w st n r = Undamaged w st × Says n (decode w st) (refused r)
+-- what assembly can answer
+pub data AssemblyAnswer : Type 0 where
+  -- the code's length, the passes made
+  written : ℕ → ℕ → AssemblyAnswer
+  -- 6: the section
+  damaged : ℕ → AssemblyAnswer
+  -- 7 to 12
+  noLayout : layout.LayoutRefusal → AssemblyAnswer
+  -- 13: the passes made
+  resultFull : ℕ → AssemblyAnswer
+
+-- each as a reply
+abbrev pub assemblyReply : AssemblyAnswer → Reply layout.Laid
+assemblyReply (written size k) = accepted (record { length = size; passes = k })
+assemblyReply (damaged i) = refused number.damaged i 0
+assemblyReply (noLayout r) = numbersReply (layout.layoutNumbers r)
+assemblyReply (resultFull k) = refused number.resultFull 0 k
 
 -- the sections are laid out in so many bytes by so many passes, and 6 to 12 don't hold
 abbrev LaidOutIn : ℕ → Store → ℕ → ℕ → ℕ → Type 0
-LaidOutIn w st n size passes = (table : List ℕ) × Undamaged w st × Says n (decode w st) (laidOut table size passes)
+LaidOutIn w st n size passes = (table : List ℕ) × Undamaged w st × layout.Says n (decode w st) (layout.laidOut table size passes)
 
--- the condition of a refusal, room being the result's length
-abbrev pub RefusalSays : ℕ → Store → ℕ → ℕ → ℕ → Refusal → Type 0
+-- the condition of each answer, room being the result's length
+abbrev pub AnswerSays : ℕ → Store → ℕ → ℕ → ℕ → AssemblyAnswer → Type 0
+AnswerSays w st n room position (written size k) = LaidOutIn w st n size k × (position + size ≤ room)
 -- 6: a bad count, and the section is 0; or the first section that breaks a rule
-RefusalSays w st n room position (reply.Damaged i) = ((badCount w st ≡ true) × (i ≡ 0)) ⊎ ((badCount w st ≡ false) × FirstBreak w st i)
-RefusalSays w st n room position (reply.ShortTable i) = SettlingSays w st n (reply.ShortTable i)
-RefusalSays w st n room position (reply.Unplaced i) = SettlingSays w st n (reply.Unplaced i)
-RefusalSays w st n room position (reply.PlacedApart i) = SettlingSays w st n (reply.PlacedApart i)
-RefusalSays w st n room position (reply.TooNarrow i k) = SettlingSays w st n (reply.TooNarrow i k)
-RefusalSays w st n room position reply.Unsettled = SettlingSays w st n reply.Unsettled
-RefusalSays w st n room position (reply.Backward i k) = SettlingSays w st n (reply.Backward i k)
+AnswerSays w st n room position (damaged i) = ((badCount w st ≡ true) × (i ≡ 0)) ⊎ ((badCount w st ≡ false) × FirstBreak w st i)
+-- 7 to 12 over the sections of an undamaged store: Says, of layout/specs/Answer
+AnswerSays w st n room position (noLayout r) = Undamaged w st × layout.Says n (decode w st) (layout.noLayout r)
 -- 13: 'the code passes the result, or the position does'
-RefusalSays w st n room position (reply.ResultFull k) = (size : ℕ) × LaidOutIn w st n size k × (room < position + size)
--- the numbers of other calls are never answered here
-RefusalSays w st n room position reply.BadDepth = ⊥
-RefusalSays w st n room position reply.BadWord = ⊥
-RefusalSays w st n room position reply.LargeMark = ⊥
-RefusalSays w st n room position reply.BytesFull = ⊥
-RefusalSays w st n room position reply.SectionsFull = ⊥
-RefusalSays w st n room position reply.ListingFull = ⊥
-
--- the condition of each answer
-abbrev pub AnswerSays : ℕ → Store → ℕ → ℕ → ℕ → Assembled → Type 0
-AnswerSays w st n room position (Written size k) = LaidOutIn w st n size k × (position + size ≤ room)
-AnswerSays w st n room position (Refused r) = RefusalSays w st n room position r
+AnswerSays w st n room position (resultFull k) = (size : ℕ) × LaidOutIn w st n size k × (room < position + size)

@@ -8,6 +8,7 @@ use mathlib.Core.List.{List}
 use lib.ListN.{length}
 use lib.Seq.{slice}
 use Rattle.units.specs.Replies.{tooNarrow}
+use Rattle.units.specs.Reply.{Reply, refused}
 use Rattle.records.specs.Store.{Store}
 use Rattle.records.specs.Sections.{Section, decode}
 use Rattle.records.specs.Damage.{wholeSoundness}
@@ -18,7 +19,8 @@ use Rattle.layout.specs.Passes.{entry, settled, narrowAt, settle}
 use Rattle.layout.specs.Conditions.{Never, placed, shortAt, unplacedAt, apartAt, deltaAt, references, passBound}
 use Rattle.layout.specs.Shortest.{SomeLayout}
 use Rattle.emission.specs.Emission.{codeOf, writtenLayout}
-use Rattle.assembler.specs.Assemble.{Reply, written, refused}
+use Rattle.layout.specs.Answer.{Laid}
+use Rattle.assembler.specs.Assemble.{written}
 
 -- the premise: a store, a table of length n, a result and a position
 pub record Given (w : ℕ) (st : Store) (n : ℕ) (result : List ℕ) (position : ℕ) : Type 0 where
@@ -57,15 +59,15 @@ pub record Written (ss : List Section) (n : ℕ) (result : List ℕ) (position s
   pub bound : passes ≤ passBound ss + 1
 
 -- code is written
-abbrev pub IsWritten : Reply → Type 0
+abbrev pub IsWritten : Reply Laid → Type 0
 IsWritten reply = (size : ℕ) × (passes : ℕ) × (reply ≡ written size passes)
 
 -- number 10
-abbrev pub IsTooNarrow : Reply → Type 0
+abbrev pub IsTooNarrow : Reply Laid → Type 0
 IsTooNarrow reply = (section : ℕ) × (passes : ℕ) × (reply ≡ refused tooNarrow section passes)
 
 -- demand 3, over the sections of the store
-pub record Shortest (ss : List Section) (n : ℕ) (result : List ℕ) (position : ℕ) (reply : Reply) (table′ result′ : List ℕ) : Type 0 where
+pub record Shortest (ss : List Section) (n : ℕ) (result : List ℕ) (position : ℕ) (reply : Reply Laid) (table′ result′ : List ℕ) : Type 0 where
   -- 'code is written exactly when some layout gives every reference enough bytes'
   pub exactly : IsWritten reply ↔ SomeLayout ss
   -- 'otherwise the answer is number 10'
@@ -76,6 +78,6 @@ pub record Shortest (ss : List Section) (n : ℕ) (result : List ℕ) (position 
       → (settle n ss ≡ narrowAt section passes) × (passes ≤ passBound ss + 1)
 
 -- the whole demand
-abbrev pub Demand3 : ℕ → Store → ℕ → List ℕ → ℕ → Reply → List ℕ → List ℕ → Type 0
+abbrev pub Demand3 : ℕ → Store → ℕ → List ℕ → ℕ → Reply Laid → List ℕ → List ℕ → Type 0
 Demand3 w st n result position reply table′ result′ =
     Given w st n result position → Shortest (decode w st) n result position reply table′ result′

@@ -16,8 +16,9 @@ ghost use Rattle.records.specs.Store.{storeOf, wordsPerSection, wordsAt};
 ghost use Rattle.records.specs.Sections.{sectionRead, decode};
 ghost use Rattle.slices.specs.Over.{over};
 ghost use Rattle.layout.specs.Passes.{entry, valueBy};
-ghost use Rattle.emission.specs.Emission.{byteCount, isPushZero, opcode, referenceBytes, sectionBytes, codeOf};
-ghost use Rattle.settling.specs.Words.{formNumber};
+ghost use Rattle.emission.specs.Emission.{opcode, referenceBytes, sectionBytes, codeOf};
+ghost use Rattle.units.specs.Reference.{byteCount, isPushZero};
+ghost use Rattle.units.specs.Form.{formNumber};
 ghost use Rattle.assembler.specs.Writing.{MarksIn, SpanIn, WritableRead, referenceIn, IsReference};
 
 // Writes the code of every section, from a position on.

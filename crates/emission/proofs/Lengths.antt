@@ -16,7 +16,8 @@ use Rattle.records.specs.Sections.{Section, mark, ops, bytes, reference}
 use Rattle.layout.specs.Layout.{total}
 use Rattle.layout.specs.Passes.{entry, valueBy, sizeBy}
 use Rattle.layout.specs.Shortest.{settledLayout}
-use Rattle.emission.specs.Emission.{byteCount, isPushZero, opcode, referenceBytes, sectionBytes, parts, inARow, codeOf, writtenLayout}
+use Rattle.emission.specs.Emission.{opcode, referenceBytes, sectionBytes, parts, inARow, codeOf, writtenLayout}
+use Rattle.units.specs.Reference.{byteCount, isPushZero}
 
 -- with its opcode, if pushed, a value has so many bytes
 length-value : (p : Bool) (n v : ℕ) → length (opcode p n ++ bigEndian n v) ≡ n + opBytes p

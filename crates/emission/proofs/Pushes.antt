@@ -21,7 +21,7 @@ use Rattle.units.specs.declared.MarkReference.the-variants.{Direct, Delta}
 use Rattle.units.specs.declared.AsmReference.{AsmReference}
 use Rattle.units.proofs.BigEndian.{number-nil, length-bigEndian, number-bigEndian}
 use Rattle.units.proofs.Held.{held-le}
-use Rattle.units.proofs.Widths.{refSize-le}
+use Rattle.units.proofs.Forms.{refSize-le}
 use Rattle.evm.specs.YellowPaper.{isPush, pushSize, instructionLength, codeByte}
 use Rattle.evm.proofs.Steps.{isPush-push, pushSize-push}
 use Rattle.records.specs.Sections.{Section, mark}
@@ -35,7 +35,8 @@ use Rattle.layout.proofs.Layouts.{still-placed}
 use Rattle.layout.proofs.Moves.{Still, or-false}
 use Rattle.layout.proofs.Rule.{Sizes}
 use Rattle.layout.proofs.Today.{today, size-holds}
-use Rattle.emission.specs.Emission.{byteCount, isPushZero, opcode, referenceBytes, sectionBytes, parts, inARow, codeOf}
+use Rattle.emission.specs.Emission.{opcode, referenceBytes, sectionBytes, parts, inARow, codeOf}
+use Rattle.units.specs.Reference.{byteCount, isPushZero}
 use Rattle.emission.specs.Pushes.{widthOf, placeOf, IsPlace, ValueHere, PushesAt, ReferencesHere}
 use Rattle.emission.proofs.Lengths.{part-lengths}
 use Rattle.emission.proofs.Rows.{row-split}

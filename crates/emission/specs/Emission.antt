@@ -3,28 +3,14 @@
 use Prim.Native.Nat.{ℕ}
 use mathlib.Core.Bool.{Bool, true, false, cond}
 use mathlib.Core.List.{List, [], _∷_, _++_, map}
-use lib.Dec.{eqb}
 use lib.ListN.{length}
-use Rattle.units.specs.Numbers.{heldBytes, bigEndian}
-use Rattle.units.specs.Reference.{refSizeBytes}
-use Rattle.units.specs.declared.SetSize.{SetSize}
-use Rattle.units.specs.declared.SetSize.the-variants.{Unsized, Sized}
+use Rattle.units.specs.Numbers.{bigEndian}
+use Rattle.units.specs.Reference.{byteCount, isPushZero}
 use Rattle.units.specs.declared.AsmReference.{AsmReference}
 use Rattle.records.specs.Sections.{Section, mark, ops, bytes, reference}
 use Rattle.evm.specs.Opcodes.{pushOp}
 use Rattle.layout.specs.Layout.{Layout}
 use Rattle.layout.specs.Passes.{entry, valueBy}
-
--- the bytes that a value is written in: the set size, or the held bytes
-abbrev pub byteCount : SetSize → ℕ → ℕ
-byteCount (Sized s) v = refSizeBytes s
-byteCount Unsized v = heldBytes v
-
--- 'pushed, unsized and 0'
-abbrev pub isPushZero : SetSize → Bool → ℕ → Bool
-isPushZero (Sized s) pushed v = false
-isPushZero Unsized true v = eqb v 0
-isPushZero Unsized false v = false
 
 -- '(if pushed) hex 5f plus its byte count'
 abbrev pub opcode : Bool → ℕ → List ℕ

@@ -11,14 +11,13 @@ use Rattle.units.specs.declared.RefSize.the-variants.{S1}
 use Rattle.units.specs.declared.SetSize.{SetSize}
 use Rattle.units.specs.declared.SetSize.the-variants.{Unsized, Sized}
 use Rattle.units.specs.declared.MarkReference.the-variants.{Direct, Delta}
-use Rattle.units.specs.declared.reply.Refusal.the-variants.{PlacedApart, TooNarrow, Backward}
 use Rattle.records.specs.Sections.{Section}
 use Rattle.slices.specs.First.{leastFrom}
 use Rattle.calls.specs.Calls.{Call, push, pushMark, pushOpByte, pushData, pushReference}
 use Rattle.calls.specs.Lists.{addedAfter, addedTo, runList}
 use Rattle.layout.specs.Passes.{entry, startFrom, start, walkFrom, pass, passes, settle}
 use Rattle.layout.specs.Conditions.{placed, shortAt, firstShort, unplacedAt, firstUnplaced, someBytes, apartAt, firstApart, backwardAt, firstBackward}
-use Rattle.layout.specs.Answer.{Answer, laidOut, refused, answer}
+use Rattle.layout.specs.Answer.{placedApart, tooNarrow as narrowRefusal, backward, Answer, laidOut, noLayout, answer}
 use Rattle.emission.specs.Emission.{referenceBytes, inARow, codeOf}
 
 -- a call that adds a mark, an op byte, data, a reference to a mark, the pushed delta from mark a to mark b
@@ -50,7 +49,7 @@ pub record Outcome : Type 0 where
 -- the code of an answer
 abbrev codeBy : List Section → Answer → List ℕ
 codeBy ss (laidOut table length passes) = codeOf (entry table) ss
-codeBy ss (refused r) = []
+codeBy ss (noLayout r) = []
 
 abbrev outcome : ℕ → List Section → Outcome
 outcome n ss = record { answered = answer n ss; code = codeBy ss (answer n ss) }
@@ -82,13 +81,13 @@ lines =
     -- 7: with 254: 61 01 01 and data, mark at 257, 3 passes
     ∷ line (far Unsized 254) 1 (laidOut (257 ∷ []) 257 3) (0x61 ∷ 0x01 ∷ 0x01 ∷ replicate 254 0)
     -- 8: as 7, size 1: number 10, section 0, pass 1
-    ∷ line (far (Sized S1) 254) 1 (refused (TooNarrow 0 1)) []
+    ∷ line (far (Sized S1) 254) 1 (noLayout (narrowRefusal 0 1)) []
     -- 9: mark 0, data aa bb, mark 1, pushed delta 0 to 1: aa bb 60 02; from 1 to 0: number 12, section 3
     ∷ line (placing 0 ∷ «data» (0xaa ∷ 0xbb ∷ []) ∷ placing 1 ∷ delta 0 1 ∷ []) 2 (laidOut (0 ∷ 2 ∷ []) 4 1) (0xaa ∷ 0xbb ∷ 0x60 ∷ 0x02 ∷ [])
-    ∷ line (placing 0 ∷ «data» (0xaa ∷ 0xbb ∷ []) ∷ placing 1 ∷ delta 1 0 ∷ []) 2 (refused (Backward 3 1)) []
+    ∷ line (placing 0 ∷ «data» (0xaa ∷ 0xbb ∷ []) ∷ placing 1 ∷ delta 1 0 ∷ []) 2 (noLayout (backward 3 1)) []
     -- 10: mark 0 twice running: accepted; with op 5b between: 9, section 2
     ∷ line (placing 0 ∷ placing 0 ∷ []) 1 (laidOut (0 ∷ []) 0 1) []
-    ∷ line (placing 0 ∷ op 0x5b ∷ placing 0 ∷ []) 1 (refused (PlacedApart 2)) []
+    ∷ line (placing 0 ∷ op 0x5b ∷ placing 0 ∷ []) 1 (noLayout (placedApart 2)) []
     ∷ []
 
 -- each line comes out as expected

@@ -8,12 +8,11 @@ use mathlib.Core.List.{List}
 use lib.ListN.{length}
 use borrow.Author.Tests.{lt-ltb, le-ltb}
 use Rattle.units.specs.Replies.{maxPasses}
-use Rattle.units.specs.declared.reply.Refusal.{Refusal}
-use Rattle.units.specs.declared.reply.Refusal.the-variants.{BadDepth, BadWord, LargeMark, BytesFull, SectionsFull, Damaged, ShortTable, Unplaced, PlacedApart, TooNarrow, Unsettled, Backward, ResultFull, ListingFull}
 use Rattle.records.specs.Sections.{Section}
 use Rattle.layout.specs.Passes.{start, Walked, through, leftAt, pass, Settling, settled, narrowAt, unsettled, ended, passes, settle}
 use Rattle.layout.specs.Conditions.{first, IsFirst, Never, shortAt, firstShort, unplacedAt, firstUnplaced, apartAt, firstApart, backwardAt, firstBackward, Moving, PassGoes, Means}
-use Rattle.layout.specs.Answer.{Answer, laidOut, refused, orElse, settlingAnswer, answer, Sound, Says}
+use Rattle.layout.specs.Answer.{LayoutRefusal, shortTable, unplaced, placedApart, tooNarrow, backward, Answer, laidOut, noLayout}
+use Rattle.layout.specs.Answer.{unsettled as unsettledAnswer, orElse, settlingAnswer, answer, Sound, Says}
 use Rattle.layout.proofs.Least.{first-law, never-law, first-or-never}
 
 -- ---- settled, 10, 11
@@ -149,13 +148,13 @@ backward-law table ss = first-law ss (backwardAt table ss)
 -- ---- the whole answer
 
 -- the refusal of a first section; or what comes next, if there is none
-hit : (ss : List Section) (test : ℕ → Bool) (refusal : ℕ → Refusal) (next : Answer) (i : ℕ) → IsFirst ss test i → orElse ss (first ss test) refusal next ≡ refused (refusal i)
+hit : (ss : List Section) (test : ℕ → Bool) (refusal : ℕ → LayoutRefusal) (next : Answer) (i : ℕ) → IsFirst ss test i → orElse ss (first ss test) refusal next ≡ noLayout (refusal i)
 hit ss test refusal next i h =
     let q = first-law ss test i .1 h in
     rw (q .0, lt-ltb i (length ss) (q .1))
 
 -- what comes next, if there is none
-miss : (ss : List Section) (test : ℕ → Bool) (refusal : ℕ → Refusal) (next : Answer) → Never ss test → orElse ss (first ss test) refusal next ≡ next
+miss : (ss : List Section) (test : ℕ → Bool) (refusal : ℕ → LayoutRefusal) (next : Answer) → Never ss test → orElse ss (first ss test) refusal next ≡ next
 miss ss test refusal next h =
     let q = never-law ss test .1 h in
     rw (le-ltb (first ss test) (length ss) (omega arith))
@@ -165,55 +164,47 @@ module _ (n : ℕ) (ss : List Section) where
   sound-answer : Sound n ss → answer n ss ≡ settlingAnswer ss (settle n ss)
   unfolding answer firstShort firstUnplaced firstApart
   sound-answer h =
-      miss ss (shortAt n ss) ShortTable _ (h .0) ∙ miss ss (unplacedAt ss) Unplaced _ (h .1) ∙ miss ss (apartAt ss) PlacedApart _ (h .2)
+      miss ss (shortAt n ss) shortTable _ (h .0) ∙ miss ss (unplacedAt ss) unplaced _ (h .1) ∙ miss ss (apartAt ss) placedApart _ (h .2)
 
   -- what is said of an answer makes it the answer
   says-answer : (a : Answer) → Says n ss a → answer n ss ≡ a
   unfolding answer firstShort firstUnplaced firstApart firstBackward
   says-answer (laidOut table sum k) h =
-      sound-answer (h .0) ∙ ap (settlingAnswer ss) (settle-law n ss (settled table sum k) .1 (h .1)) ∙ miss ss (backwardAt table ss) (λ i. Backward i k) _ (h .2)
-  says-answer (refused (ShortTable i)) h = hit ss (shortAt n ss) ShortTable _ i h
-  says-answer (refused (Unplaced i)) h = miss ss (shortAt n ss) ShortTable _ (h .0) ∙ hit ss (unplacedAt ss) Unplaced _ i (h .1)
-  says-answer (refused (PlacedApart i)) h =
-      miss ss (shortAt n ss) ShortTable _ (h .0) ∙ miss ss (unplacedAt ss) Unplaced _ (h .1) ∙ hit ss (apartAt ss) PlacedApart _ i (h .2)
-  says-answer (refused (TooNarrow i k)) h = sound-answer (h .0) ∙ ap (settlingAnswer ss) (settle-law n ss (narrowAt i k) .1 (h .1))
-  says-answer (refused Unsettled) h = sound-answer (h .0) ∙ ap (settlingAnswer ss) (settle-law n ss unsettled .1 (h .1))
-  says-answer (refused (Backward i k)) h =
-      sound-answer (h .2) ∙ ap (settlingAnswer ss) (settle-law n ss (settled (h .0) (h .1) k) .1 (h .3)) ∙ hit ss (backwardAt (h .0) ss) (λ j. Backward j k) _ i (h .4)
-  says-answer (refused BadDepth) h = absurd h
-  says-answer (refused BadWord) h = absurd h
-  says-answer (refused LargeMark) h = absurd h
-  says-answer (refused BytesFull) h = absurd h
-  says-answer (refused SectionsFull) h = absurd h
-  says-answer (refused (Damaged i)) h = absurd h
-  says-answer (refused (ResultFull k)) h = absurd h
-  says-answer (refused ListingFull) h = absurd h
+      sound-answer (h .0) ∙ ap (settlingAnswer ss) (settle-law n ss (settled table sum k) .1 (h .1)) ∙ miss ss (backwardAt table ss) (λ i. backward i k) _ (h .2)
+  says-answer (noLayout (shortTable i)) h = hit ss (shortAt n ss) shortTable _ i h
+  says-answer (noLayout (unplaced i)) h = miss ss (shortAt n ss) shortTable _ (h .0) ∙ hit ss (unplacedAt ss) unplaced _ i (h .1)
+  says-answer (noLayout (placedApart i)) h =
+      miss ss (shortAt n ss) shortTable _ (h .0) ∙ miss ss (unplacedAt ss) unplaced _ (h .1) ∙ hit ss (apartAt ss) placedApart _ i (h .2)
+  says-answer (noLayout (tooNarrow i k)) h = sound-answer (h .0) ∙ ap (settlingAnswer ss) (settle-law n ss (narrowAt i k) .1 (h .1))
+  says-answer (noLayout unsettledAnswer) h = sound-answer (h .0) ∙ ap (settlingAnswer ss) (settle-law n ss unsettled .1 (h .1))
+  says-answer (noLayout (backward i k)) h =
+      sound-answer (h .2) ∙ ap (settlingAnswer ss) (settle-law n ss (settled (h .0) (h .1) k) .1 (h .3)) ∙ hit ss (backwardAt (h .0) ss) (λ j. backward j k) _ i (h .4)
 
   -- something is said of some answer
   settling-said : Sound n ss → (a : Settling) → Means n ss a → (b : Answer) × Says n ss b
   settling-said h (settled table sum k) m = go (first-or-never ss (backwardAt table ss))
     where
       go : ((i : ℕ) × IsFirst ss (backwardAt table ss) i) ⊎ Never ss (backwardAt table ss) → (b : Answer) × Says n ss b
-      go (inl q) = (refused (Backward (q .0) k), (table, sum, h, m, q .1))
+      go (inl q) = (noLayout (backward (q .0) k), (table, sum, h, m, q .1))
       go (inr q) = (laidOut table sum k, (h, m, q))
-  settling-said h (narrowAt i k) m = (refused (TooNarrow i k), (h, m))
-  settling-said h unsettled m = (refused Unsettled, (h, m))
+  settling-said h (narrowAt i k) m = (noLayout (tooNarrow i k), (h, m))
+  settling-said h unsettled m = (noLayout unsettledAnswer, (h, m))
 
   -- and of some answer in every case
   said : (b : Answer) × Says n ss b
   said = short (first-or-never ss (shortAt n ss))
     where
       apart : Never ss (shortAt n ss) → Never ss (unplacedAt ss) → ((i : ℕ) × IsFirst ss (apartAt ss) i) ⊎ Never ss (apartAt ss) → (b : Answer) × Says n ss b
-      apart h g (inl q) = (refused (PlacedApart (q .0)), (h, g, q .1))
+      apart h g (inl q) = (noLayout (placedApart (q .0)), (h, g, q .1))
       apart h g (inr q) = settling-said (h, g, q) (settle n ss) (settle-law n ss (settle n ss) .0 refl)
 
-      unplaced : Never ss (shortAt n ss) → ((i : ℕ) × IsFirst ss (unplacedAt ss) i) ⊎ Never ss (unplacedAt ss) → (b : Answer) × Says n ss b
-      unplaced h (inl q) = (refused (Unplaced (q .0)), (h, q .1))
-      unplaced h (inr q) = apart h q (first-or-never ss (apartAt ss))
+      placing : Never ss (shortAt n ss) → ((i : ℕ) × IsFirst ss (unplacedAt ss) i) ⊎ Never ss (unplacedAt ss) → (b : Answer) × Says n ss b
+      placing h (inl q) = (noLayout (unplaced (q .0)), (h, q .1))
+      placing h (inr q) = apart h q (first-or-never ss (apartAt ss))
 
       short : ((i : ℕ) × IsFirst ss (shortAt n ss) i) ⊎ Never ss (shortAt n ss) → (b : Answer) × Says n ss b
-      short (inl q) = (refused (ShortTable (q .0)), q .1)
-      short (inr q) = unplaced q (first-or-never ss (unplacedAt ss))
+      short (inl q) = (noLayout (shortTable (q .0)), q .1)
+      short (inr q) = placing q (first-or-never ss (unplacedAt ss))
 
   -- each answer is given in its stated condition and in no other
   pub answer-law : (a : Answer) → (answer n ss ≡ a) ↔ Says n ss a

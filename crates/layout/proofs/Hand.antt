@@ -14,7 +14,6 @@ use Rattle.units.specs.declared.RefSize.the-variants.{S1}
 use Rattle.units.specs.declared.SetSize.{SetSize}
 use Rattle.units.specs.declared.SetSize.the-variants.{Unsized, Sized}
 use Rattle.units.specs.declared.MarkReference.the-variants.{Direct, Delta}
-use Rattle.units.specs.declared.reply.Refusal.the-variants.{ShortTable, Unplaced, PlacedApart, TooNarrow, Backward}
 use Rattle.units.proofs.BigEndian.{pow256-mono}
 use Rattle.records.specs.Sections.{Section, mark, ops, bytes, reference}
 use Rattle.slices.specs.First.{leastFrom}
@@ -22,7 +21,7 @@ use Rattle.layout.specs.Layout.{Layout, total, inAll, GivesEnough}
 use Rattle.layout.specs.Passes.{startFrom, start, walkFrom, pass, settled, narrowAt, passes, settle}
 use Rattle.layout.specs.Conditions.{first, passBound, storedBytes, references, placed, shortAt, firstShort, unplacedAt, firstUnplaced, someBytes, apartAt, firstApart, backwardAt, firstBackward, sumOf, deltaAt, Premise}
 use Rattle.layout.specs.Shortest.{SomeLayout}
-use Rattle.layout.specs.Answer.{Answer, laidOut, refused, answer}
+use Rattle.layout.specs.Answer.{shortTable, unplaced, placedApart, tooNarrow as narrowAnswer, Answer, laidOut, noLayout, answer}
 use Rattle.layout.proofs.Least.{never-law}
 use Rattle.layout.proofs.Demand3.{demand-3}
 
@@ -52,15 +51,15 @@ tried n ss a = record { marks = n; sections = ss; expected = a }
 abbrev pub lines : List Tried
 lines =
     -- sizes by the table as it is then: the raw reference of size 1 is found too narrow in pass 1
-    tried 1 (direct true Unsized 0 ∷ bytes (replicate 254 0) ∷ mark 0 ∷ direct false (Sized S1) 0 ∷ []) (refused (TooNarrow 3 1))
+    tried 1 (direct true Unsized 0 ∷ bytes (replicate 254 0) ∷ mark 0 ∷ direct false (Sized S1) 0 ∷ []) (noLayout (narrowAnswer 3 1))
     -- a delta that is backward in pass 1 only
     ∷ tried 2 (direct true Unsized 1 ∷ direct true Unsized 0 ∷ mark 1 ∷ delta 1 0 ∷ mark 0 ∷ []) (laidOut (6 ∷ 4 ∷ []) 6 3)
     -- an empty section is no bytes between placings, a reference is
     ∷ tried 1 (mark 0 ∷ bytes [] ∷ mark 0 ∷ []) (laidOut (0 ∷ []) 0 1)
-    ∷ tried 1 (mark 0 ∷ direct true Unsized 0 ∷ mark 0 ∷ []) (refused (PlacedApart 2))
+    ∷ tried 1 (mark 0 ∷ direct true Unsized 0 ∷ mark 0 ∷ []) (noLayout (placedApart 2))
     -- 7 at section 2 comes before 8 at section 0
-    ∷ tried 1 (direct true Unsized 0 ∷ delta 0 0 ∷ mark 1 ∷ []) (refused (ShortTable 2))
-    ∷ tried 2 (direct true Unsized 0 ∷ delta 0 0 ∷ mark 1 ∷ []) (refused (Unplaced 0))
+    ∷ tried 1 (direct true Unsized 0 ∷ delta 0 0 ∷ mark 1 ∷ []) (noLayout (shortTable 2))
+    ∷ tried 2 (direct true Unsized 0 ∷ delta 0 0 ∷ mark 1 ∷ []) (noLayout (unplaced 0))
     ∷ []
 
 -- the answers of a list of lines are those expected
@@ -78,11 +77,11 @@ tried-lists = refl
 premise : (n : ℕ) (ss : List Section) → firstShort n ss ≡ length ss → first ss (deltaAt ss) ≡ length ss
     → firstUnplaced ss ≡ length ss → firstApart ss ≡ length ss → passBound ss ≤ 1023 → storedBytes ss + 5 * references ss < 2 ^ 32 → Premise n ss
 unfolding firstShort firstUnplaced firstApart
-premise n ss short delta unplaced apart few small =
+premise n ss short direct placing apart few small =
     record {
       inTable = never-law ss (shortAt n ss) .0 short;
-      direct = never-law ss (deltaAt ss) .0 delta;
-      marksPlaced = never-law ss (unplacedAt ss) .0 unplaced;
+      direct = never-law ss (deltaAt ss) .0 direct;
+      marksPlaced = never-law ss (unplacedAt ss) .0 placing;
       together = never-law ss (apartAt ss) .0 apart;
       few = few;
       small = small;

@@ -16,7 +16,7 @@ use Rattle.units.specs.declared.RefSize.the-variants.{S1, S2, S3, S4}
 use Rattle.units.specs.declared.AsmReference.{AsmReference}
 use Rattle.units.proofs.Held.{held-1, held-2, held-3, held-4, held-le, by-range, held-power}
 use Rattle.units.proofs.BigEndian.{pow256-mono}
-use Rattle.units.proofs.Widths.{refSize-le}
+use Rattle.units.proofs.Forms.{refSize-le}
 use Rattle.layout.specs.Layout.{HoldsIn}
 use Rattle.layout.proofs.Rule.{Rule}
 

@@ -3,34 +3,47 @@ use Prim.Native.Nat.{ℕ}
 use mathlib.Core.Bool.{cond}
 use mathlib.Core.List.{List}
 use lib.Dec.{ltb}
-use lib.ListN.{length}
-use Rattle.units.specs.declared.reply.Refusal.{Refusal}
-use Rattle.units.specs.declared.reply.Refusal.the-variants.{BadDepth, BadWord, LargeMark, BytesFull, SectionsFull, Damaged, ShortTable, Unplaced, PlacedApart, TooNarrow, Unsettled, Backward, ResultFull, ListingFull}
+use lib.ListN.{length, replicate}
+use Rattle.units.specs.Replies as number
+use Rattle.units.specs.Reply.{Reply, accepted, numbersReply}
+use Rattle.units.specs.declared.reply.RefusalNumbers.{RefusalNumbers}
 use Rattle.records.specs.Sections.{Section}
-use Rattle.layout.specs.Passes.{Settling, settled, narrowAt, unsettled, settle}
-use Rattle.layout.specs.Conditions.{IsFirst, Never, shortAt, firstShort, unplacedAt, firstUnplaced, apartAt, firstApart, backwardAt, firstBackward, Means}
+use Rattle.layout.specs.Passes as settling
+use Rattle.layout.specs.Conditions.{IsFirst, Never, shortAt, firstShort, unplacedAt, firstUnplaced, apartAt, firstApart}
+use Rattle.layout.specs.Conditions.{backwardAt, firstBackward, Means}
+
+-- why sections have no layout: 7 to 12
+pub data LayoutRefusal : Type 0 where
+  -- 7, 8 and 9: the section
+  shortTable : ℕ → LayoutRefusal
+  unplaced : ℕ → LayoutRefusal
+  placedApart : ℕ → LayoutRefusal
+  -- 10 and 12: the section, the passes made
+  tooNarrow : ℕ → ℕ → LayoutRefusal
+  unsettled : LayoutRefusal
+  backward : ℕ → ℕ → LayoutRefusal
 
 -- what settling answers
 pub data Answer : Type 0 where
   -- the table, the length in all, the passes made
   laidOut : List ℕ → ℕ → ℕ → Answer
-  refused : Refusal → Answer
+  noLayout : LayoutRefusal → Answer
 
 -- the refusal of a first section, if there is one, or what comes next
-abbrev pub orElse : List Section → ℕ → (ℕ → Refusal) → Answer → Answer
-orElse ss i refusal next = cond (ltb i (length ss)) (refused (refusal i)) next
+abbrev pub orElse : List Section → ℕ → (ℕ → LayoutRefusal) → Answer → Answer
+orElse ss i refusal next = cond (ltb i (length ss)) (noLayout (refusal i)) next
 
 -- 10, 11, 12
-abbrev pub settlingAnswer : List Section → Settling → Answer
-settlingAnswer ss (settled table sum k) = orElse ss (firstBackward table ss) (λ i. Backward i k) (laidOut table sum k)
-settlingAnswer ss (narrowAt i k) = refused (TooNarrow i k)
-settlingAnswer ss unsettled = refused Unsettled
+abbrev pub settlingAnswer : List Section → settling.Settling → Answer
+settlingAnswer ss (settling.settled table sum k) = orElse ss (firstBackward table ss) (λ i. backward i k) (laidOut table sum k)
+settlingAnswer ss (settling.narrowAt i k) = noLayout (tooNarrow i k)
+settlingAnswer ss settling.unsettled = noLayout unsettled
 
 -- 7, 8, 9, then the settling
 unfoldable pub answer : ℕ → List Section → Answer
 answer n ss =
-    orElse ss (firstShort n ss) ShortTable
-    (orElse ss (firstUnplaced ss) Unplaced (orElse ss (firstApart ss) PlacedApart (settlingAnswer ss (settle n ss))))
+    orElse ss (firstShort n ss) shortTable
+    (orElse ss (firstUnplaced ss) unplaced (orElse ss (firstApart ss) placedApart (settlingAnswer ss (settling.settle n ss))))
 
 -- 7, 8 and 9 don't hold
 abbrev pub Sound : ℕ → List Section → Type 0
@@ -39,21 +52,37 @@ Sound n ss = Never ss (shortAt n ss) × Never ss (unplacedAt ss) × Never ss (ap
 -- 'Each number comes in its stated condition and in no other': the condition of each answer. That it is given exactly then is `answer-law`
 -- of proofs/Answers.
 abbrev pub Says : ℕ → List Section → Answer → Type 0
-Says n ss (laidOut table sum k) =
-    Sound n ss × Means n ss (settled table sum k) × Never ss (backwardAt table ss)
-Says n ss (refused (ShortTable i)) = IsFirst ss (shortAt n ss) i
-Says n ss (refused (Unplaced i)) = Never ss (shortAt n ss) × IsFirst ss (unplacedAt ss) i
-Says n ss (refused (PlacedApart i)) = Never ss (shortAt n ss) × Never ss (unplacedAt ss) × IsFirst ss (apartAt ss) i
-Says n ss (refused (TooNarrow i k)) = Sound n ss × Means n ss (narrowAt i k)
-Says n ss (refused Unsettled) = Sound n ss × Means n ss unsettled
-Says n ss (refused (Backward i k)) =
-    (table : List ℕ) × (sum : ℕ) × Sound n ss × Means n ss (settled table sum k) × IsFirst ss (backwardAt table ss) i
--- the numbers of other calls are never answered here
-Says n ss (refused BadDepth) = ⊥
-Says n ss (refused BadWord) = ⊥
-Says n ss (refused LargeMark) = ⊥
-Says n ss (refused BytesFull) = ⊥
-Says n ss (refused SectionsFull) = ⊥
-Says n ss (refused (Damaged i)) = ⊥
-Says n ss (refused (ResultFull k)) = ⊥
-Says n ss (refused ListingFull) = ⊥
+Says n ss (laidOut table sum k) = Sound n ss × Means n ss (settling.settled table sum k) × Never ss (backwardAt table ss)
+Says n ss (noLayout (shortTable i)) = IsFirst ss (shortAt n ss) i
+Says n ss (noLayout (unplaced i)) = Never ss (shortAt n ss) × IsFirst ss (unplacedAt ss) i
+Says n ss (noLayout (placedApart i)) = Never ss (shortAt n ss) × Never ss (unplacedAt ss) × IsFirst ss (apartAt ss) i
+Says n ss (noLayout (tooNarrow i k)) = Sound n ss × Means n ss (settling.narrowAt i k)
+Says n ss (noLayout unsettled) = Sound n ss × Means n ss settling.unsettled
+Says n ss (noLayout (backward i k)) =
+    (table : List ℕ) × (sum : ℕ) × Sound n ss × Means n ss (settling.settled table sum k) × IsFirst ss (backwardAt table ss) i
+
+-- ---- in the paper's numbers
+
+-- the number, section and passes of each refusal
+abbrev pub layoutNumbers : LayoutRefusal → RefusalNumbers
+layoutNumbers (shortTable i) = number.numbersAt number.shortTable i 0
+layoutNumbers (unplaced i) = number.numbersAt number.unplaced i 0
+layoutNumbers (placedApart i) = number.numbersAt number.placedApart i 0
+layoutNumbers (tooNarrow i k) = number.numbersAt number.tooNarrow i k
+layoutNumbers unsettled = number.numbersAt number.unsettled 0 number.maxPasses
+layoutNumbers (backward i k) = number.numbersAt number.backward i k
+
+-- 'The answer is length and passes.'
+pub record Laid : Type 0 where
+  pub length : ℕ
+  pub passes : ℕ
+
+-- the answer as a reply
+abbrev pub answerReply : Answer → Reply Laid
+answerReply (laidOut table length passes) = accepted (record { length = length; passes = passes })
+answerReply (noLayout r) = numbersReply (layoutNumbers r)
+
+-- the table afterwards, of length n: refused, it is all 0
+abbrev pub answerTable : ℕ → Answer → List ℕ
+answerTable n (laidOut table length passes) = table
+answerTable n (noLayout r) = replicate n 0

@@ -1,2 +1,4 @@
 pub mod Adds
 pub mod Forms
+pub mod Bounds
+pub mod Unpacking

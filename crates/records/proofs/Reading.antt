@@ -15,7 +15,8 @@ use Rattle.units.specs.declared.SetSize.{SetSize}
 use Rattle.units.specs.declared.SetSize.the-variants.{Unsized, Sized}
 use Rattle.units.specs.declared.MarkReference.{MarkReference}
 use Rattle.units.specs.declared.MarkReference.the-variants.{Direct, Delta}
-use Rattle.records.specs.Record.{maxMark, sizeNumber, setSizeOf, referenceWords, readMark, span, readSpan, readRef, readDirect, readDelta, readSection}
+use Rattle.records.specs.Record.{maxMark, setSizeOf, referenceWords, readMark, span, readSpan, readRef, readDirect, readDelta, readSection}
+use Rattle.units.specs.Form.{sizeNumber}
 use Rattle.records.specs.declared.record.AsmSection.{AsmSection}
 use Rattle.records.specs.declared.record.AsmSection.the-variants.{Mark, Ops, Data, MarkRef}
 use Rattle.records.specs.declared.record.SectionRead.{SectionRead}

@@ -13,7 +13,7 @@ use Rattle.units.specs.declared.MarkReference.the-variants.{Direct, Delta}
 use Rattle.units.specs.declared.AsmReference.{AsmReference}
 use Rattle.units.specs.declared.MarkSpan.{MarkSpan}
 use Rattle.units.specs.declared.BytesSpan.{BytesSpan}
-use Rattle.units.specs.Reference.{refSizeBytes}
+use Rattle.units.specs.Form.{sizeNumber, pushedNumber}
 use Rattle.records.specs.declared.record.AsmSection.{AsmSection}
 use Rattle.records.specs.declared.record.AsmSection.the-variants.{Mark, Ops, Data, MarkRef}
 use Rattle.records.specs.declared.record.SectionRead.{SectionRead}
@@ -42,11 +42,6 @@ pushedDeltaKind = 4
 
 abbrev pub rawDeltaKind : ℕ
 rawDeltaKind = 9
-
--- a set size as a number, 0 if unsized
-abbrev pub sizeNumber : SetSize → ℕ
-sizeNumber Unsized = 0
-sizeNumber (Sized s) = refSizeBytes s
 
 -- the set size that a number from 0 to 4 stands for
 unfoldable pub setSizeOf : ℕ → SetSize
@@ -86,11 +81,7 @@ readSection r =
     (cond (ltb (r .kind) 14) (readDelta (r .kind - rawDeltaKind) false (r .first) (r .second))
     Damaged)))))
 
--- plus 8 if pushed
-abbrev pub pushedNumber : Bool → ℕ
-pushedNumber true = 8
-pushedNumber false = 0
-
+-- the kind of an unsized delta, to which the set size is added
 abbrev pub deltaKind : Bool → ℕ
 deltaKind true = pushedDeltaKind
 deltaKind false = rawDeltaKind
@@ -102,3 +93,9 @@ wordsOfRef (Delta d) s p = record { kind = sizeNumber s + deltaKind p; first = d
 
 unfoldable pub referenceWords : AsmReference → StoredSection
 referenceWords r = wordsOfRef (r .«mark_ref») (r .«set_size») (r .pushed)
+
+-- a reference's form, from its words: a direct one has it as a word, a delta in its kind. Said of every three words.
+unfoldable pub formOf : StoredSection → ℕ
+formOf r =
+    cond (eqb (r .kind) directKind) (r .second)
+    (cond (ltb (r .kind) rawDeltaKind) (r .kind + pushedNumber true - pushedDeltaKind) (r .kind - rawDeltaKind))

@@ -10,6 +10,7 @@ pub use damage::check_store;
 pub use record::AsmSection;
 pub use record::SectionRead;
 pub use record::StoredSection;
+pub use record::form_of;
 pub use record::read_section;
 pub use record::reference_words;
 pub use record::set_size_of;

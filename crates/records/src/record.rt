@@ -9,9 +9,9 @@ use units::MarkReference;
 use units::MarkSpan;
 use units::RefSize;
 use units::SetSize;
+use units::form;
 ghost use mathlib.Core.Path.{_≡_};
-ghost use Prim.Native.Nat.{_≤_};
-ghost use Rattle.records.specs.Record.{readSection, readMark, readSpan, readDirect, readDelta, readRef, setSizeOf, sizeNumber, referenceWords};
+ghost use Rattle.records.specs.Record.{readSection, readMark, readSpan, readDirect, readDelta, readRef, setSizeOf, referenceWords, formOf};
 
 // A section as it is read back.
 pub enum AsmSection {
@@ -144,27 +144,18 @@ pub fn set_size_of(size: u32) -> SetSize
     }
 }
 
-// A set size as a number, 0 if unsized.
-fn size_number(set_size: SetSize) -> u32
-    ensures { λ r. ⌜ (r ≡ sizeNumber «set_size») × (r ≤ 4) ⌝ }
-{
-    match set_size {
-        SetSize::Unsized => 0,
-        SetSize::Sized(size) => size.bytes(),
-    }
-}
-
 // The three words of a reference.
 pub fn reference_words(r: AsmReference) -> StoredSection
     ensures { λ s. ⌜ s ≡ referenceWords r ⌝ }
 {
     let mark_ref = r.mark_ref;
-    let size = size_number(r.set_size);
+    let set_size = r.set_size;
+    let size = set_size.number();
     match mark_ref {
         MarkReference::Direct(id) => StoredSection {
             kind: kind::DIRECT,
             first: id.0,
-            second: if r.pushed { size + 8 } else { size },
+            second: if r.pushed { size + form::PUSHED } else { size },
         },
         MarkReference::Delta(span) => StoredSection {
             kind: if r.pushed {
@@ -176,4 +167,18 @@ pub fn reference_words(r: AsmReference) -> StoredSection
             second: span.end.0,
         },
     }
+}
+
+// A reference's form, from its words: a direct one has it as a word, a delta in its kind. (Of other words, some number.)
+pub fn form_of(words: StoredSection) -> u32
+    ensures { λ r. ⌜ r ≡ formOf words ⌝ }
+{
+    let kind = words.kind;
+    if kind == kind::DIRECT {
+        return words.second;
+    }
+    if kind < kind::RAW_DELTA {
+        return kind + form::PUSHED - kind::PUSHED_DELTA;
+    }
+    kind - kind::RAW_DELTA
 }

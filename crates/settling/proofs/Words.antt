@@ -17,7 +17,8 @@ use Rattle.units.specs.declared.MarkReference.the-variants.{Direct, Delta}
 use Rattle.units.specs.declared.AsmReference.{AsmReference}
 use Rattle.units.specs.declared.SizeFor.{SizeFor}
 use Rattle.units.specs.declared.SizeFor.the-variants.{Bytes, TooNarrow}
-use Rattle.records.specs.Record.{maxMark, sizeNumber, setSizeOf, pushedNumber, deltaKind, readMark, readSpan, readDirect, readDelta, readSection}
+use Rattle.records.specs.Record.{maxMark, setSizeOf, deltaKind, readMark, readSpan, readDirect, readDelta, readSection}
+use Rattle.units.specs.Form.{sizeNumber, pushedNumber}
 use Rattle.records.specs.Damage.{unreadable}
 use Rattle.records.specs.declared.record.SectionRead.{SectionRead}
 use Rattle.records.specs.declared.record.SectionRead.the-variants.{Damaged}
@@ -25,7 +26,8 @@ use Rattle.records.specs.declared.record.StoredSection.{StoredSection}
 use Rattle.layout.specs.Passes.{entry}
 use Rattle.slices.proofs.Tests.{cond-case}
 use Rattle.settling.specs.Pieces.{pieceRead, shortPiece, unplacedPiece, backwardPiece, leastPiece}
-use Rattle.settling.specs.Words.{pieceOfWords, Readable, formNumber, formPiece, valuePiece, sizePiece}
+use Rattle.settling.specs.Words.{pieceOfWords, Readable, formPiece, valuePiece, sizePiece}
+use Rattle.units.specs.Form.{formNumber}
 use Rattle.settling.specs.declared.piece.Piece.{Piece}
 use Rattle.settling.specs.declared.piece.Piece.the-variants as piece
 

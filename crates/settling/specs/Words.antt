@@ -9,7 +9,8 @@ use Rattle.units.specs.Reference.{sizeFor}
 use Rattle.units.specs.declared.AsmReference.{AsmReference}
 use Rattle.units.specs.declared.SizeFor.{SizeFor}
 use Rattle.units.specs.declared.SizeFor.the-variants.{Bytes}
-use Rattle.records.specs.Record.{sizeNumber, pushedNumber, readSection}
+use Rattle.records.specs.Record.{readSection}
+use Rattle.units.specs.Form.{sizeNumber, pushedNumber}
 use Rattle.records.specs.Damage.{unreadable}
 use Rattle.records.specs.declared.record.StoredSection.{StoredSection}
 use Rattle.layout.specs.Passes.{entry, valueBy}

@@ -19,10 +19,10 @@ ghost use mathlib.Core.Path.{_≡_};
 ghost use lib.ListN.{length, replicate};
 ghost use Rattle.records.specs.Store.{storeOf, wordsPerSection};
 ghost use Rattle.layout.specs.Passes.{start, settle};
-ghost use Rattle.layout.specs.Answer.{answer, settlingAnswer};
+ghost use Rattle.layout.specs.Answer.{answer, settlingAnswer, answerReply, answerTable};
 ghost use Rattle.settling.specs.Pieces.{sectionsOf, Whole, Fitting};
 ghost use Rattle.settling.specs.Words.{lessOne};
-ghost use Rattle.settling.specs.Settle.{settleAnswer, settledOf, tableAfter};
+ghost use Rattle.settling.specs.Settle.{settling, settledReply};
 
 // Settled: the code's length in all and the passes made; or a refusal, 6 to 12, with the table all 0.
 pub enum Settled {
@@ -32,8 +32,8 @@ pub enum Settled {
 
 // Settling over a store and a lent table, whatever they hold. Refusals: 6 damaged, 7 short table, 8 unplaced, 9 placed apart, 10 too narrow, 11 unsettled, 12 backward.
 pub fn settle(store: Assembler, bytes: &[u8], words: &[u32], table: &mut [u32]) -> Settled
-    ensures reply { λ r. ⌜ r ≡ settledOf (settleAnswer wordsPerSection (length (now (table .entry))) (storeOf store (now (bytes .entry)) (now (words .entry)))) ⌝ }
-    ensures table { λ _. ⌜ now (table .exit) ≡ tableAfter (length (now (table .entry))) (settleAnswer wordsPerSection (length (now (table .entry))) (storeOf store (now (bytes .entry)) (now (words .entry)))) ⌝ }
+    ensures reply { λ r. ⌜ settledReply r ≡ settling wordsPerSection (length (now (table .entry))) (storeOf store (now (bytes .entry)) (now (words .entry))) .reply ⌝ }
+    ensures table { λ _. ⌜ now (table .exit) ≡ settling wordsPerSection (length (now (table .entry))) (storeOf store (now (bytes .entry)) (now (words .entry))) .table ⌝ }
 {
     clear(table); // on a 6 too
     match check_store(store, bytes, words) {
@@ -46,8 +46,8 @@ pub fn settle(store: Assembler, bytes: &[u8], words: &[u32], table: &mut [u32]) 
 fn settle_whole(store: Assembler, bytes: &[u8], words: &[u32], table: &mut [u32]) -> Settled
     requires { ⌜ Whole store (now bytes) (now words) ⌝ }
     requires { ⌜ now table ≡ replicate (length (now table)) 0 ⌝ }
-    ensures reply { λ r. ⌜ r ≡ settledOf (answer (length (now (table .entry))) (sectionsOf store (now (bytes .entry)) (now (words .entry)))) ⌝ }
-    ensures table { λ _. ⌜ now (table .exit) ≡ tableAfter (length (now (table .entry))) (answer (length (now (table .entry))) (sectionsOf store (now (bytes .entry)) (now (words .entry)))) ⌝ }
+    ensures reply { λ r. ⌜ settledReply r ≡ answerReply (answer (length (now (table .entry))) (sectionsOf store (now (bytes .entry)) (now (words .entry)))) ⌝ }
+    ensures table { λ _. ⌜ now (table .exit) ≡ answerTable (length (now (table .entry))) (answer (length (now (table .entry))) (sectionsOf store (now (bytes .entry)) (now (words .entry)))) ⌝ }
 {
     let short = first_short(store, bytes, words, table.len());
     if short < store.sections {
@@ -70,8 +70,8 @@ fn settle_whole(store: Assembler, bytes: &[u8], words: &[u32], table: &mut [u32]
 fn settle_placed(store: Assembler, bytes: &[u8], words: &[u32], table: &mut [u32]) -> Settled
     requires { ⌜ Fitting store (now bytes) (now words) (length (now table)) ⌝ }
     requires { ⌜ lessOne (now table) ≡ start (length (now table)) (sectionsOf store (now bytes) (now words)) ⌝ }
-    ensures reply { λ r. ⌜ r ≡ settledOf (settlingAnswer (sectionsOf store (now (bytes .entry)) (now (words .entry))) (settle (length (now (table .entry))) (sectionsOf store (now (bytes .entry)) (now (words .entry))))) ⌝ }
-    ensures table { λ _. ⌜ now (table .exit) ≡ tableAfter (length (now (table .entry))) (settlingAnswer (sectionsOf store (now (bytes .entry)) (now (words .entry))) (settle (length (now (table .entry))) (sectionsOf store (now (bytes .entry)) (now (words .entry))))) ⌝ }
+    ensures reply { λ r. ⌜ settledReply r ≡ answerReply (settlingAnswer (sectionsOf store (now (bytes .entry)) (now (words .entry))) (settle (length (now (table .entry))) (sectionsOf store (now (bytes .entry)) (now (words .entry))))) ⌝ }
+    ensures table { λ _. ⌜ now (table .exit) ≡ answerTable (length (now (table .entry))) (settlingAnswer (sectionsOf store (now (bytes .entry)) (now (words .entry))) (settle (length (now (table .entry))) (sectionsOf store (now (bytes .entry)) (now (words .entry))))) ⌝ }
 {
     less_one(table);
     let reply = run_passes(store, bytes, words, table);

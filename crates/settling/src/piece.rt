@@ -13,7 +13,8 @@ ghost use lib.ListN.{length};
 ghost use Rattle.units.specs.Reference.{leastSize, sizeFor};
 ghost use Rattle.records.specs.Store.{wordsPerSection, wordsAt};
 ghost use Rattle.settling.specs.Pieces.{shortPiece, leastPiece};
-ghost use Rattle.settling.specs.Words.{pieceOfWords, Readable, formNumber, formPiece, valuePiece, sizePiece};
+ghost use Rattle.settling.specs.Words.{pieceOfWords, Readable, formPiece, valuePiece, sizePiece};
+ghost use Rattle.units.specs.Form.{formNumber};
 
 // What a section is to a walk. The contracts name it; the code goes by the words.
 pub enum Piece {

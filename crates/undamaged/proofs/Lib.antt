@@ -1,3 +1,4 @@
 pub mod Soundness
 pub mod Reading
+pub mod Forms
 pub mod Sections

@@ -1,4 +1,4 @@
 pub mod BigEndian
 pub mod Held
-pub mod Widths
+pub mod Forms
 pub mod Refusals

@@ -1,4 +1,5 @@
 pub mod Numbers
 pub mod Reference
+pub mod Form
 pub mod Replies
 pub mod Reply

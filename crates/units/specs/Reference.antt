@@ -54,6 +54,17 @@ width Unsized false v = heldBytes v
 unfoldable pub size : AsmReference → ℕ → ℕ
 size r v = width (r .«set_size») (r .pushed) v
 
+-- the bytes that a value is written in: the set size, or the held bytes
+abbrev pub byteCount : SetSize → ℕ → ℕ
+byteCount (Sized s) v = refSizeBytes s
+byteCount Unsized v = heldBytes v
+
+-- 'pushed, unsized and 0'
+abbrev pub isPushZero : SetSize → Bool → ℕ → Bool
+isPushZero (Sized s) pushed v = false
+isPushZero Unsized true v = eqb v 0
+isPushZero Unsized false v = false
+
 -- the size for a value, or too narrow
 unfoldable pub sizeFor : AsmReference → ℕ → SizeFor
 sizeFor r v = cond (tooNarrow r v) TooNarrow (Bytes (size r v))

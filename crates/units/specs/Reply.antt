@@ -2,12 +2,17 @@
 use Prim.Native.Nat.{ℕ}
 use Rattle.units.specs.Replies.{refusalNumbers}
 use Rattle.units.specs.declared.reply.Refusal.{Refusal}
+use Rattle.units.specs.declared.reply.RefusalNumbers.{RefusalNumbers}
 
 pub data Reply (A : Type 0) : Type 0 where
   accepted : A → Reply A
   -- number, section, passes made
   refused : ℕ → ℕ → ℕ → Reply A
 
+-- a refusal's number, section and passes as a reply
+abbrev pub numbersReply : {A : Type 0} → RefusalNumbers → Reply A
+numbersReply n = refused (n .number) (n .section) (n .passes)
+
 -- a refusal as a reply
 abbrev pub refusalReply : {A : Type 0} → Refusal → Reply A
-refusalReply r = refused (refusalNumbers r .number) (refusalNumbers r .section) (refusalNumbers r .passes)
+refusalReply r = numbersReply (refusalNumbers r)

@@ -1,5 +1,6 @@
 // Document 01, module 1: mark numbers and byte positions, set sizes, references, and the size of a reference for a value;
 // and 'Replies', the refusals. Knows nothing of stored words, offset tables or passes.
+pub mod form;
 mod reply;
 
 pub use reply::Refusal;
@@ -8,6 +9,7 @@ ghost use mathlib.Core.Path.{_≡_};
 ghost use Prim.Native.Nat.{_≤_};
 ghost use Rattle.units.specs.Numbers.{heldBytes};
 ghost use Rattle.units.specs.Reference.{refSizeBytes, unsizedPushed, leastSize, sizeFor};
+ghost use Rattle.units.specs.Form.{sizeNumber, formNumber};
 
 // The number of a mark. A store takes 0 to 1,048,575.
 pub struct MarkId(pub u32);
@@ -85,6 +87,18 @@ impl RefSize {
     }
 }
 
+impl SetSize {
+    // The set size as a number, 0 if unsized.
+    pub fn number(self) -> u32
+        ensures { λ r. ⌜ (r ≡ sizeNumber self) × (r ≤ 4) ⌝ }
+    {
+        match self {
+            SetSize::Unsized => 0,
+            SetSize::Sized(size) => size.bytes(),
+        }
+    }
+}
+
 impl AsmReference {
     // An unsized pushed reference to a mark's offset.
     pub fn new_direct(id: MarkId) -> Self
@@ -119,50 +133,30 @@ impl AsmReference {
         }
     }
 
+    // The form as a number: set size (0 unsized) plus 8 if pushed.
+    pub fn form(self) -> u32
+        ensures { λ r. ⌜ r ≡ formNumber self ⌝ }
+    {
+        let set_size = self.set_size;
+        let size = set_size.number();
+        if self.pushed {
+            size + form::PUSHED
+        } else {
+            size
+        }
+    }
+
     // The least size, which no value goes below.
     pub fn least_size(self) -> u32
         ensures { λ r. ⌜ r ≡ leastSize self ⌝ }
     {
-        let set_size = self.set_size;
-        let SetSize::Sized(size) = set_size else {
-            return 1;
-        };
-        if self.pushed {
-            size.bytes() + 1
-        } else {
-            size.bytes()
-        }
+        form::least_size(self.form())
     }
 
     // The size for a value: the set size or the held bytes, and one byte more if pushed; PUSH0 for an unsized pushed 0.
     pub fn size_for(self, value: u32) -> SizeFor
         ensures { λ r. ⌜ r ≡ sizeFor self value ⌝ }
     {
-        let held = bytes_to_hold(value).bytes();
-        let set_size = self.set_size;
-        match set_size {
-            SetSize::Sized(size) => {
-                let bytes = size.bytes();
-                if bytes < held {
-                    return SizeFor::TooNarrow;
-                }
-                if self.pushed {
-                    SizeFor::Bytes(bytes + 1)
-                } else {
-                    SizeFor::Bytes(bytes)
-                }
-            }
-            SetSize::Unsized => {
-                if self.pushed {
-                    if value == 0 {
-                        SizeFor::Bytes(1)
-                    } else {
-                        SizeFor::Bytes(held + 1)
-                    }
-                } else {
-                    SizeFor::Bytes(held)
-                }
-            }
-        }
+        form::size_for(self.form(), value)
     }
 }

@@ -6,6 +6,7 @@ use Prim.Native.Nat.{ℕ}
 use lib.ListN.{length, replicate}
 use denote.Ref.{now}
 use Rattle.records.specs.Store.{storeOf, wordsPerSection}
+use Rattle.settling.specs.Settle.{settledReply}
 use Rattle.assembler.proofs.Laid.{laid}
 use Rattle.assembler.proofs.Assembles.{kept-refused, laid-table, kept-full, code-fits, kept-written}
 use Rattle.assembler.proofs.assemble.Statement.{statement}
@@ -40,7 +41,7 @@ returns c =
     let a = settled .before .before .before .before .before .before .args in
     let st = storeOf (a .store) (now (a .bytes)) (now (a .words)) in
     let n = length (now (a .table)) in
-    let is = laid-table wordsPerSection st n (now (a .result)) (a .position) _ _ _ (sym (settled .settle .ensures .0) ∙ told .settled2 .given .1) (settled .settle .ensures .1) in
+    let is = laid-table wordsPerSection st n (now (a .result)) (a .position) _ _ _ (ap settledReply (sym (told .settled2 .given .1)) ∙ settled .settle .ensures .0) (settled .settle .ensures .1) in
     let same = cleared .clear .ensures ∙ ap (λ (k : ℕ). replicate k 0) (settled .settle .kept .1 .1 .1 .0) in
     kept-full wordsPerSection st n (now (a .result)) (a .position) _ _ _ is _ (sym (full .before .is-full .ensures) ∙ full .if1 .taken) same
 
@@ -52,7 +53,7 @@ write-code-requires c κs =
     let a = settled .before .before .before .before .before .before .args in
     let st = storeOf (a .store) (now (a .bytes)) (now (a .words)) in
     let n = length (now (a .table)) in
-    let is = laid-table wordsPerSection st n (now (a .result)) (a .position) _ _ _ (sym (settled .settle .ensures .0) ∙ told .settled2 .given .1) (settled .settle .ensures .1) in
+    let is = laid-table wordsPerSection st n (now (a .result)) (a .position) _ _ _ (ap settledReply (sym (told .settled2 .given .1)) ∙ settled .settle .ensures .0) (settled .settle .ensures .1) in
     let all = laid wordsPerSection n st _ _ _ is in
     (all .facts .wordsFit, (all .writable, code-fits wordsPerSection st n (now (a .result)) (a .position) _ _ _ is (sym (full .before .is-full .ensures) ∙ full .if1 .left)))
 
@@ -66,7 +67,7 @@ returns-2 c =
     let a = settled .before .before .before .before .before .before .args in
     let st = storeOf (a .store) (now (a .bytes)) (now (a .words)) in
     let n = length (now (a .table)) in
-    kept-refused wordsPerSection st n (now (a .result)) (a .position) _ _ (sym (settled .settle .ensures .0) ∙ told .settled .given .1) (settled .settle .ensures .1)
+    kept-refused wordsPerSection st n (now (a .result)) (a .position) (told .settled .given .0 .0) _ (ap settledReply (sym (told .settled .given .1)) ∙ settled .settle .ensures .0) (settled .settle .ensures .1)
 
 same-length-3 : tie.Need-same-length-3
 same-length-3 c = c .before .before .before .before .before .before .before .before .before .before .before .before .settle .kept .1 .1 .1 .0
@@ -83,7 +84,7 @@ returns-3 c =
     let a = settled .before .before .before .before .before .before .args in
     let st = storeOf (a .store) (now (a .bytes)) (now (a .words)) in
     let n = length (now (a .table)) in
-    let is = laid-table wordsPerSection st n (now (a .result)) (a .position) _ _ _ (sym (settled .settle .ensures .0) ∙ told .settled2 .given .1) (settled .settle .ensures .1) in
+    let is = laid-table wordsPerSection st n (now (a .result)) (a .position) _ _ _ (ap settledReply (sym (told .settled2 .given .1)) ∙ settled .settle .ensures .0) (settled .settle .ensures .1) in
     kept-written wordsPerSection st n (now (a .result)) (a .position) _ _ _ is (sym (full .before .is-full .ensures) ∙ full .if1 .left) _ (done .write-code .ensures)
 
 pub assemble-spec : {M : Type 1} → statement M

@@ -8,9 +8,9 @@ use lib.ListN.{length, replicate}
 use denote.Ref.{now}
 use Rattle.records.specs.Store.{storeOf, wordsPerSection}
 use Rattle.records.specs.Sections.{decode}
-use Rattle.layout.specs.Answer.{answer}
-use Rattle.settling.specs.Settle.{settleAnswer, settledOf, tableAfter}
-use Rattle.settling.proofs.Compose.{Answers, answers-refused, answers-same, settle-damaged, settle-sound}
+use Rattle.layout.specs.Answer.{answer, answerReply, answerTable}
+use Rattle.settling.specs.Settle.{Settlement}
+use Rattle.settling.proofs.Compose.{settle-damaged, settle-sound}
 use Rattle.settling.proofs.settle.Statement.{statement}
 use Rattle.settling.proofs.settle.Tie as tie
 
@@ -36,25 +36,28 @@ same-length c = search needs
 
 returns : tie.Need-returns
 returns c =
-    let start = c .before .before .before .before .before .before .before .before .before .before .before in
-    let a = start .args in
+    let tested = c .before .before .before in
+    let cleared = tested .before .before .before in
+    let a = cleared .before .before .before .before .before .args in
     let st = storeOf (a .store) (now (a .bytes)) (now (a .words)) in
-    let n = length (now (a .table)) in
-    answers-refused n (settleAnswer wordsPerSection n st) _ _ (settle-damaged wordsPerSection n st _ (c .before .before .before .check-store .ensures) _ (c .before .section .given .1)) (c .before .before .before .before .before .before .clear .ensures)
+    let same = settle-damaged wordsPerSection (length (now (a .table))) st _ (tested .check-store .ensures) _ (c .before .section .given .1) in
+    (ap (λ (s : Settlement). s .reply) (sym same), cleared .clear .ensures ∙ ap (λ (s : Settlement). s .table) (sym same))
 
 same-length-2 : tie.Need-same-length-2
 same-length-2 c = search needs
 
 returns-2 : tie.Need-returns-2
 returns-2 c =
-    let start = c .before .before .before .before .before .before .before .before .before .before .before .before .before .before in
-    let a = start .args in
+    let settled = c .before .before in
+    let told = settled .before .before in
+    let tested = told .before .before in
+    let cleared = tested .before .before .before in
+    let a = cleared .before .before .before .before .before .args in
     let st = storeOf (a .store) (now (a .bytes)) (now (a .words)) in
-    let n = length (now (a .table)) in
-    let long = c .before .before .before .before .before .before .before .before .before .clear .kept .0 in
-    answers-same n (settleAnswer wordsPerSection n st) (answer n (decode wordsPerSection st)) _ _ (settle-sound wordsPerSection n st _ (c .before .before .before .before .before .before .check-store .ensures) (c .before .before .before .before .enum-told .given .1)) (
-      c .before .before .settle-whole .ensures .0 ∙ ap (λ (x : ℕ). settledOf (answer x (decode wordsPerSection st))) long,
-      c .before .before .settle-whole .ensures .1 ∙ ap (λ (x : ℕ). tableAfter x (answer x (decode wordsPerSection st))) long,
+    let long = cleared .clear .kept .0 in
+    let same = settle-sound wordsPerSection (length (now (a .table))) st _ (tested .check-store .ensures) (told .enum-told .given .1) in (
+      settled .settle-whole .ensures .0 ∙ ap (λ (x : ℕ). answerReply (answer x (decode wordsPerSection st))) long ∙ ap (λ (s : Settlement). s .reply) (sym same),
+      settled .settle-whole .ensures .1 ∙ ap (λ (x : ℕ). answerTable x (answer x (decode wordsPerSection st))) long ∙ ap (λ (s : Settlement). s .table) (sym same),
     )
 
 pub settle-spec : {M : Type 1} → statement M

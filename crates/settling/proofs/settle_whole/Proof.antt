@@ -7,9 +7,8 @@ use lib.ListN.{length, replicate}
 use denote.Ref.{now}
 use Rattle.records.specs.Store.{storeOf, wordsPerSection}
 use Rattle.layout.specs.Passes.{start as start-table, settle}
-use Rattle.layout.specs.Answer.{answer, settlingAnswer}
+use Rattle.layout.specs.Answer.{answer, settlingAnswer, answerReply, answerTable}
 use Rattle.settling.specs.Pieces.{sectionsOf, Fitting, firstSums}
-use Rattle.settling.specs.Settle.{settledOf, tableAfter}
 use Rattle.settling.proofs.Sections.{decode-count}
 use Rattle.settling.proofs.Compose.{answers-refused, answers-same, whole-short, none-short, whole-unplaced, whole-apart, whole-on}
 use borrow.Author.Needs.{needs}
@@ -130,8 +129,8 @@ returns-4 c =
     let no-apart : length ss ≤ placed .result = omega (arith, count, c .before .before .before .before .if3 .left) in
     let long = placed .kept .1 .1 .1 .0 in
     answers-same n (answer n ss) (settlingAnswer ss (settle n ss)) _ _ (whole-on n ss _ (shorts .ensures) no-short _ (unplaced .ensures) no-unplaced _ (placed .ensures .0) no-apart) (
-      c .before .before .settle-placed .ensures .0 ∙ ap (λ (x : ℕ). settledOf (settlingAnswer ss (settle x ss))) long,
-      c .before .before .settle-placed .ensures .1 ∙ ap (λ (x : ℕ). tableAfter x (settlingAnswer ss (settle x ss))) long,
+      c .before .before .settle-placed .ensures .0 ∙ ap (λ (x : ℕ). answerReply (settlingAnswer ss (settle x ss))) long,
+      c .before .before .settle-placed .ensures .1 ∙ ap (λ (x : ℕ). answerTable x (settlingAnswer ss (settle x ss))) long,
     )
 
 pub settle-whole-spec : {M : Type 1} → statement M

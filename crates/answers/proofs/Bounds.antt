@@ -1,0 +1,108 @@
+-- Every answer that is given comes back out of its number: passes at most 1,024, a code's length below 2^32, a text's below 2^56.
+-- Assumes nothing.
+use Prim.Native.Nat.{ℕ, suc, _+_, _^_, _≤_, _<_}
+use native.Mathlib.Omega.{arith}
+use mathlib.Core.Path.{_≡_, refl, sym, ap, _∙_, subst}
+use mathlib.Core.Bool.{Bool, true, false, cond}
+use mathlib.Core.List.{List, [], _∷_}
+use lib.Dec.{ltb}
+use lib.ListN.{length}
+use Rattle.units.specs.declared.AsmReference.{AsmReference}
+use Rattle.units.specs.Reference.{tooNarrow}
+use Rattle.units.specs.Replies.{listingFull}
+use Rattle.units.specs.Reply.{refused, numbersReply}
+use Rattle.slices.proofs.Tests.{cond-case}
+use Rattle.records.specs.Store.{Store}
+use Rattle.records.specs.Sections.{Section, mark, ops, bytes, reference, decode}
+use Rattle.records.specs.Damage.{wholeSoundness}
+use Rattle.records.specs.declared.damage.Soundness.{Soundness}
+use Rattle.records.specs.declared.damage.Soundness.the-variants.{Sound, Damaged}
+use Rattle.undamaged.specs.View.{Undamaged}
+use Rattle.undamaged.proofs.Soundness.{undamaged-iff, damaged-at-iff}
+use Rattle.layout.specs.Passes.{entry, valueBy, Walked, leftAt, walkFrom, pass}
+use Rattle.layout.specs.Answer as layout
+use Rattle.layout.specs.Answer.{laidOut, noLayout, Says}
+use Rattle.layout.proofs.Answers.{answer-law}
+use Rattle.settling.specs.Settle.{settlement}
+use Rattle.settling.proofs.Sections.{decode-count}
+use Rattle.emission.proofs.Places.{still-sum, sizes-five}
+use Rattle.assembler.specs.Assemble.{assembly}
+use Rattle.assembler.specs.Answers as answer
+use Rattle.assembler.specs.Answers.{AssemblyAnswer, assemblyReply, AnswerSays}
+use Rattle.assembler.proofs.Decoded.{stored-small}
+use Rattle.assembler.proofs.Laid.{laid, sound-settles}
+use Rattle.assembler.proofs.Answers.{assembly-answers, assembly-law}
+use Rattle.listing.specs.Listing.{listing}
+use Rattle.listing.specs.Answer.{replyFor, listingReply}
+use Rattle.listing.proofs.Every.{listing-short}
+use Rattle.numbers.proofs.Bounds.{whole-section}
+use Rattle.answers.specs.Numbers.{AssembledPacks, ListedPacks}
+
+-- ---- assembly
+
+-- a walk is left at one of the sections
+walk-below : (ss : List Section) (i sum : ℕ) (moved : Bool) (table : List ℕ) (j : ℕ) → walkFrom ss i sum moved table ≡ leftAt j → j < i + length ss
+unfolding walkFrom
+walk-below [] i sum moved table j e = let z : _≡_ {A = ℕ} 0 1 = cc in absurd (omega arith)
+walk-below (mark m ∷ ss) i sum moved table j e = omega (arith, walk-below ss (suc i) _ _ _ j e)
+walk-below (ops bs ∷ ss) i sum moved table j e = omega (arith, walk-below ss (suc i) _ _ _ j e)
+walk-below (bytes bs ∷ ss) i sum moved table j e = omega (arith, walk-below ss (suc i) _ _ _ j e)
+walk-below (reference r ∷ ss) i sum moved table j e =
+    go (tooNarrow r (valueBy (entry table) (r .«mark_ref»))) _ (walk-below ss (suc i) _ moved table j) e
+  where
+    go : (b : Bool) (rest : Walked) → (rest ≡ leftAt j → j < suc i + length ss) → cond b (leftAt i) rest ≡ leftAt j → j < i + suc (length ss)
+    go true rest below q = let same : i ≡ j = cc in omega arith
+    go false rest below q = omega (arith, below q)
+
+-- a refusal of a layout over at most 2^32 - 1 sections
+layout-packs : (n : ℕ) (ss : List Section) (r : layout.LayoutRefusal) → length ss < 2 ^ 32 → Says n ss (noLayout r)
+    → AssembledPacks (numbersReply (layout.layoutNumbers r))
+unfolding pass
+layout-packs n ss (layout.shortTable i) l h = (omega arith, (omega arith, omega arith, omega (arith, h .0)))
+layout-packs n ss (layout.unplaced i) l h = (omega arith, (omega arith, omega arith, omega (arith, h .1 .0)))
+layout-packs n ss (layout.placedApart i) l h = (omega arith, (omega arith, omega arith, omega (arith, h .2 .0)))
+layout-packs n ss (layout.tooNarrow i k) l h =
+    (omega arith, (omega arith, omega (arith, h .1 .3), omega (arith, walk-below ss 0 0 false (h .1 .1) i (h .1 .5))))
+layout-packs n ss layout.unsettled l h = (omega arith, (omega arith, omega arith, omega arith))
+layout-packs n ss (layout.backward i k) l h = (omega arith, (omega arith, omega (arith, h .3 .3), omega (arith, h .4 .0)))
+
+module _ (w : ℕ) (st : Store) (n : ℕ) where
+  -- the sections of an undamaged store
+  sections-below : Undamaged w st → length (decode w st) < 2 ^ 32
+  sections-below u = omega (arith, decode-count w st, undamaged-iff w st .0 u .sectionsLimit)
+
+  -- a code's length
+  code-below : (table : List ℕ) (size k : ℕ) → Undamaged w st → Says n (decode w st) (laidOut table size k) → size < 2 ^ 32
+  code-below table size k u says =
+      let settles = sound-settles w n st u ∙ ap (settlement n Sound) (answer-law n (decode w st) (laidOut table size k) .1 says) in
+      let l = laid w n st table size k settles in
+      omega (arith, still-sum (entry table) (decode w st) 0 size (l .still), sizes-five (entry table) (decode w st), stored-small w st (l .facts))
+
+  -- each answer of assembly in its condition
+  says-packs : (room position : ℕ) (a : AssemblyAnswer) → AnswerSays w st n room position a → AssembledPacks (assemblyReply a)
+  says-packs room position (answer.written size k) h =
+      let says = h .0 .2 in
+      (omega arith, omega (arith, says .1 .3), code-below (h .0 .0) size k (h .0 .1) says)
+  says-packs room position (answer.damaged i) h = (omega arith, (omega arith, omega arith, whole-section w st i (damaged-at-iff w st i .1 h)))
+  says-packs room position (answer.noLayout r) h = layout-packs n (decode w st) r (sections-below (h .0)) (h .1)
+  says-packs room position (answer.resultFull k) h =
+      let says = h .1 .2 in
+      (omega arith, (omega arith, omega (arith, says .1 .3), omega arith))
+
+  pub assembly-packs : (result : List ℕ) (position : ℕ) → AssembledPacks (assembly w st n result position .reply)
+  assembly-packs result position =
+      let given = assembly-answers w st n result position in
+      let says = assembly-law w st n result position (given .0) .0 (given .1) in
+      subst AssembledPacks (sym (given .1)) (says-packs (length result) position (given .0) says)
+
+-- ---- listings
+
+pub listing-packs : (w : ℕ) (st : Store) (buffer : List ℕ) → ListedPacks (listingReply w st buffer)
+unfolding listingReply
+listing-packs w st buffer = go (wholeSoundness w st) refl
+  where
+    go : (s : Soundness) → wholeSoundness w st ≡ s → ListedPacks (replyFor s (listing (decode w st)) buffer)
+    go (Damaged i) e = (omega arith, (omega arith, omega arith, whole-section w st i e))
+    go Sound e =
+        cond-case ListedPacks (ltb (length buffer) (length (listing (decode w st)))) _ _ (λ h. (omega arith, (omega arith, omega arith, omega arith)))
+        (λ h. omega (arith, listing-short w st (undamaged-iff w st .0 e)))

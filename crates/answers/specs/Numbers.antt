@@ -1,0 +1,40 @@
+-- The answers of assembly and of a listing as one number each. Assumes nothing.
+use Prim.Native.Nat.{ℕ, _^_, _<_}
+use Rattle.units.specs.Reply.{Reply}
+use Rattle.layout.specs.Answer.{Laid}
+use Rattle.numbers.specs.Numbers.{packed, midIn, lowIn, replyNumber, replyIn}
+use Rattle.numbers.specs.Packs.{Packs, ReplyPacks}
+
+-- the answer to assembly: passes and length, or a refusal
+abbrev pub laidNumber : Laid → ℕ
+laidNumber laid = packed 0 (laid .passes) (laid .length)
+
+abbrev pub assembledNumber : Reply Laid → ℕ
+assembledNumber r = replyNumber laidNumber r
+
+-- the answer to a listing: the text's length in mid and low, or a refusal
+abbrev pub listedNumber : Reply ℕ → ℕ
+listedNumber r = replyNumber (λ size. size) r
+
+-- answers that come back out of their number; every answer that is given does (proofs/Bounds)
+abbrev pub LaidPacks : Laid → Type 0
+LaidPacks laid = Packs 0 (laid .passes) (laid .length)
+
+abbrev pub AssembledPacks : Reply Laid → Type 0
+AssembledPacks r = ReplyPacks LaidPacks r
+
+abbrev pub TextPacks : ℕ → Type 0
+TextPacks size = size < 2 ^ 56
+
+abbrev pub ListedPacks : Reply ℕ → Type 0
+ListedPacks r = ReplyPacks TextPacks r
+
+-- the reply that a number is
+abbrev pub laidIn : ℕ → Laid
+laidIn answer = record { length = lowIn answer; passes = midIn answer }
+
+abbrev pub assembledIn : ℕ → Reply Laid
+assembledIn answer = replyIn laidIn answer
+
+abbrev pub listedIn : ℕ → Reply ℕ
+listedIn answer = replyIn (λ size. size) answer

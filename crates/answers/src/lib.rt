@@ -1,0 +1,76 @@
+// Assembly and the listing by a state's number, each answered by one number.
+use assembler::Assembled;
+use listing::Listed;
+use numbers::SECTION;
+use numbers::counts_in;
+use numbers::refusal_number;
+ghost use mathlib.Core.Path.{_≡_};
+ghost use lib.ListN.{length};
+ghost use Rattle.records.specs.Store.{wordsPerSection};
+ghost use Rattle.assembler.specs.Assemble.{assembledReply, assembly};
+ghost use Rattle.assembler.specs.Demand3.{Demand3};
+ghost use Rattle.assembler.specs.Instructions.{CodePushes};
+ghost use Rattle.listing.specs.Answer.{listedReply, listingReply, listingBuffer};
+ghost use Rattle.numbers.specs.Numbers.{storeIn};
+ghost use Rattle.answers.specs.Numbers.{assembledNumber, listedNumber, AssembledPacks, ListedPacks};
+
+// Writes the code into the result from the position on, and the marks' offsets into the table. Refusals: 6 to 13, with the table all 0
+// and the result unchanged.
+pub fn assemble(
+    state: u64,
+    bytes: &[u8],
+    words: &[u32],
+    table: &mut [u32],
+    result: &mut [u8],
+    position: usize,
+) -> u64
+    ensures reply { λ r. ⌜ r ≡ assembledNumber (assembly wordsPerSection (storeIn state (now (bytes .entry)) (now (words .entry)))
+        (length (now (table .entry))) (now (result .entry)) position .reply) ⌝ }
+    ensures table { λ _. ⌜ now (table .exit) ≡ assembly wordsPerSection (storeIn state (now (bytes .entry)) (now (words .entry)))
+        (length (now (table .entry))) (now (result .entry)) position .table ⌝ }
+    ensures result { λ _. ⌜ now (result .exit) ≡ assembly wordsPerSection (storeIn state (now (bytes .entry)) (now (words .entry)))
+        (length (now (table .entry))) (now (result .entry)) position .result ⌝ }
+    ensures shortest { λ _. ⌜ Demand3 wordsPerSection (storeIn state (now (bytes .entry)) (now (words .entry)))
+        (length (now (table .entry))) (now (result .entry)) position
+        (assembly wordsPerSection (storeIn state (now (bytes .entry)) (now (words .entry)))
+        (length (now (table .entry))) (now (result .entry)) position .reply)
+        (now (table .exit)) (now (result .exit)) ⌝ }
+    ensures pushes { λ _. ⌜ CodePushes wordsPerSection (storeIn state (now (bytes .entry)) (now (words .entry))) position
+        (assembly wordsPerSection (storeIn state (now (bytes .entry)) (now (words .entry)))
+        (length (now (table .entry))) (now (result .entry)) position .reply)
+        (now (table .exit)) (now (result .exit)) ⌝ }
+{
+    assembled_number(assembler::assemble(counts_in(state), bytes, words, table, result, position))
+}
+
+// Writes the listing to the text's start. Refusals: 6, 14, with the text unchanged.
+pub fn write_asm(state: u64, bytes: &[u8], words: &[u32], text: &mut [u8]) -> u64
+    ensures answer { λ r. ⌜ r ≡ listedNumber (listingReply wordsPerSection (storeIn state (now (bytes .entry)) (now (words .entry)))
+        (now (text .entry))) ⌝ }
+    ensures written { λ _. ⌜ now (text .exit) ≡ listingBuffer wordsPerSection
+        (storeIn state (now (bytes .entry)) (now (words .entry))) (now (text .entry)) ⌝ }
+{
+    listed_number(listing::write_asm(counts_in(state), bytes, words, text))
+}
+
+// The answer to assembly as a number.
+fn assembled_number(assembled: Assembled) -> u64
+    requires { ⌜ AssembledPacks (assembledReply assembled) ⌝ }
+    ensures { λ r. ⌜ r ≡ assembledNumber (assembledReply assembled) ⌝ }
+{
+    match assembled {
+        Assembled::Written { length, passes } => (passes as u64) * SECTION + (length as u64),
+        Assembled::Refused(refusal) => refusal_number(refusal),
+    }
+}
+
+// The answer to a listing as a number.
+fn listed_number(listed: Listed) -> u64
+    requires { ⌜ ListedPacks (listedReply listed) ⌝ }
+    ensures { λ r. ⌜ r ≡ listedNumber (listedReply listed) ⌝ }
+{
+    match listed {
+        Listed::Text(length) => length as u64,
+        Listed::Refused(refusal) => refusal_number(refusal),
+    }
+}

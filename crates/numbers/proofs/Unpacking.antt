@@ -1,0 +1,87 @@
+-- The number determines the answer: number, mid and low come back out, and so a state's counts do. Assumes nothing.
+use Prim.Native.Nat.{ℕ, _+_, _*_, _/_, _%_, _^_, _≤_, _<_}
+use native.Mathlib.Omega.{arith}
+use mathlib.Core.Path.{_≡_, refl}
+use mathlib.Core.List.{List}
+use mathlib.Core.Bool.{Bool, true, false, not, _&&_}
+use lib.ListN.{length}
+use lib.Dec.{leb}
+use borrow.Author.Tests.{ne-eqb, lt-leb}
+use Rattle.units.specs.Reply.{Reply, accepted, refused}
+use Rattle.records.specs.declared.Assembler.{Assembler}
+use Rattle.records.specs.Store.{Store, maxBytes, maxSections, badCounts}
+use Rattle.records.specs.Damage.{badCount, wholeSoundness, badCountBuilding, lastSoundness}
+use Rattle.records.specs.declared.damage.Soundness.the-variants.{Damaged}
+use Rattle.calls.specs.Calls.{BuiltReply, Push, pushReply}
+use Rattle.calls.proofs.Refusals.{push-answers}
+use Rattle.numbers.specs.Numbers.{packed, numberIn, midIn, lowIn, countsIn, storeIn, stateNumber, replyNumber, replyIn, builtNumber, builtIn}
+use Rattle.numbers.specs.Packs.{Packs, ReplyPacks, CountsPack, BuiltPacks}
+use Rattle.numbers.proofs.Bounds.{push-packs}
+
+-- number, mid and low come back out
+module _ (number mid low : ℕ) (h : Packs number mid low) where
+  pub number-back : numberIn (packed number mid low) ≡ number
+  number-back = omega (arith, h .0, h .1, h .2)
+
+  pub mid-back : midIn (packed number mid low) ≡ mid
+  mid-back = omega (arith, h .0, h .1, h .2)
+
+  pub low-back : lowIn (packed number mid low) ≡ low
+  low-back = omega (arith, h .0, h .1, h .2)
+
+-- so a reply comes back out, where what is accepted does
+pub reply-back : {A : Type 0} (number : A → ℕ) (given : ℕ → A) (fits : A → Type 0)
+    → ((x : A) → fits x → (numberIn (number x) ≡ 0) × (given (number x) ≡ x))
+    → (r : Reply A) → ReplyPacks fits r → replyIn given (replyNumber number r) ≡ r
+reply-back number given fits back (accepted x) h = simp (back x h .0, back x h .1)
+reply-back number given fits back (refused n i k) h =
+    simp (number-back n k i (h .1), mid-back n k i (h .1), low-back n k i (h .1), ne-eqb n 0 (omega (arith, h .0)))
+
+-- a state's counts are those that it was made of
+pub state-back : (counts : Assembler) → counts .bytes < 2 ^ 32 → countsIn (stateNumber counts) ≡ counts
+state-back counts h =
+    let low : stateNumber counts % 2 ^ 32 ≡ counts .bytes = omega (arith, h) in
+    let high : stateNumber counts / 2 ^ 32 ≡ counts .sections = omega (arith, h) in
+    rw (low, high)
+
+-- the next state is the counts that the call leaves: an accepted answer is a state
+pub stored-state : (counts : Assembler) → BuiltPacks (accepted counts) → countsIn (builtNumber (accepted counts)) ≡ counts
+stored-state counts h = state-back counts (h .2)
+
+-- every answer that is given comes back out: the number determines it
+pub built-back : (w : ℕ) (p : Push) (st : Store) → builtIn (builtNumber (pushReply w p st)) ≡ pushReply w p st
+built-back w p st =
+    reply-back stateNumber countsIn CountsPack (λ counts h. (number-back 0 (counts .sections) (counts .bytes) h, stored-state counts h)) (pushReply w p st) (push-packs w p st)
+
+-- a building call answers no number above 6: 255 is left to a form that names nothing
+pub built-below : (w : ℕ) (p : Push) (st : Store) → numberIn (builtNumber (pushReply w p st)) ≤ 6
+built-below w p st = go (pushReply w p st) refl (push-packs w p st)
+  where
+    go : (r : BuiltReply) → pushReply w p st ≡ r → BuiltPacks r → numberIn (builtNumber r) ≤ 6
+    go (accepted a) e h = omega (arith, number-back 0 (a .sections) (a .bytes) h)
+    go (refused n i k) e h = omega (arith, number-back n k i (h .1), push-answers w p st .numbers n i k e .1)
+
+-- ---- a refusal taken as a state
+
+-- one test of four fails
+third-fails : (a b c d : Bool) → c ≡ false → not (a && b && c && d) ≡ true
+third-fails true true c d e = rw e
+third-fails true false c d e = refl
+third-fails false b c d e = refl
+
+module _ (w answer : ℕ) (bytes words : List ℕ) (refused : 1 ≤ numberIn answer) where
+  -- it passes the limit of sections
+  refused-counts : badCounts w (storeIn answer bytes words) ≡ true
+  unfolding badCounts
+  refused-counts =
+      third-fails (leb (answer % 2 ^ 32) (length bytes)) (leb (answer % 2 ^ 32) maxBytes) (leb (answer / 2 ^ 32) maxSections) (leb (w * (answer / 2 ^ 32)) (length words))
+      (lt-leb (answer / 2 ^ 32) maxSections (omega arith))
+
+  -- so every later call that tests the store answers 6 at section 0: a caller may look at the last answer alone
+  pub refused-last : lastSoundness w (storeIn answer bytes words) ≡ Damaged 0
+  unfolding lastSoundness badCountBuilding
+  refused-last = rw refused-counts
+
+  pub refused-whole : wholeSoundness w (storeIn answer bytes words) ≡ Damaged 0
+  unfolding wholeSoundness badCount
+  refused-whole = rw refused-counts
