@@ -1,5 +1,5 @@
 -- A minimal push out of a number's bytes, highest first: the opcode before the bytes that follow the leading zeros. Assumes nothing.
-use Prim.Native.Nat.{ℕ, suc, _+_, _-_, _/_, _%_, _^_, _≤_, _<_}
+use Prim.Native.Nat.{ℕ, suc, _+_, _-_, _/_, _%_, _≤_, _<_}
 use native.Mathlib.Omega.{arith}
 use native.Mathlib.Nat.{add-zero, div-div-eq-div-mul}
 use mathlib.Core.Path.{_≡_, refl, sym, _∙_, ap}
@@ -10,7 +10,7 @@ use lib.ListN.{length, getD, take, drop, set, length-append, length-drop}
 use lib.Seq.{drop-cons, drop-set-add, drop-append-le, take-at}
 use lib.Dec.{ltb}
 use borrow.Author.Tests.{ltb-true, ltb-false}
-use Rattle.units.specs.Numbers.{number, bigEndian, leastBytes}
+use Rattle.units.specs.Numbers.{number, bigEndian}
 use Rattle.units.proofs.BigEndian.{AllBytes, leastBytes-leading, bigEndian-leading}
 use Rattle.evm.specs.Opcodes.{pushOp}
 use Rattle.calls.specs.Calls.{minimalPush}

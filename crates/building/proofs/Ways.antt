@@ -10,7 +10,7 @@ use Rattle.records.specs.declared.record.StoredSection.{StoredSection}
 use Rattle.records.specs.Record.{setSizeOf}
 use Rattle.records.specs.Store.{Store, wordsPerSection}
 use Rattle.records.specs.Sections.{Section}
-use Rattle.calls.specs.Calls.{BuiltReply, Push, pushReference, hasBadDepth, hasBadWord, hasLargeMark, added, wordsOf, addAfter, pushReply, pushAfter}
+use Rattle.calls.specs.Calls.{Push, pushReference, hasBadDepth, hasBadWord, hasLargeMark, added, wordsOf, pushReply, pushAfter}
 use Rattle.calls.specs.Alone.{StandsAlone, wordsReply, wordsAfter}
 use Rattle.calls.proofs.Alone.{alone-reply, alone-after}
 use Rattle.numbers.specs.Numbers.{storeIn, builtNumber}

@@ -4,10 +4,9 @@ use borrow.Author.Needs.{needs}
 use native.Mathlib.Omega.{arith}
 use denote.Ref.{now}
 use Prim.Native.Nat.{ℕ, _+_, _-_, _≤_}
-use mathlib.Core.Path.{_≡_, ap, _∙_}
-use mathlib.Core.List.{List, _∷_, _++_}
-use lib.ListN.{length, take, drop, set, replicate, length-set, length-append, length-drop}
-use Rattle.slices.specs.Over.{over}
+use mathlib.Core.Path.{ap, _∙_}
+use mathlib.Core.List.{List}
+use lib.ListN.{length, take, drop, set, replicate, length-set}
 use Rattle.slices.proofs.Over.{has-room, length-over}
 use Rattle.building.proofs.Digits.{opcode-before}
 use Rattle.building.proofs.minimal.push_bytes.Statement.{statement}

@@ -2,7 +2,7 @@
 -- Assumes nothing.
 use borrow.Author.Needs.{needs}
 use denote.Ref.{now}
-use mathlib.Core.Path.{_≡_, refl, sym, _∙_}
+use mathlib.Core.Path.{refl, sym, _∙_}
 use Rattle.records.specs.Store.{wordsPerSection}
 use Rattle.calls.specs.Calls.{pushReference}
 use Rattle.numbers.specs.Numbers.{storeIn}
