@@ -10,7 +10,7 @@ use Rattle.records.specs.Sections.{ops}
 use Rattle.calls.specs.Calls.{pushSwap, added}
 use Rattle.numbers.specs.Numbers.{storeIn}
 use Rattle.numbers.proofs.Adds.{push-bad-depth}
-use Rattle.building.proofs.Ways.{Judged, pushed, push-judged}
+use Rattle.short.proofs.Judged.{Judged, pushed, push-judged}
 use Rattle.building.proofs.Depths.{swap-depth}
 use Rattle.building.proofs.bytes.push_swap.Statement.{statement}
 use Rattle.building.proofs.bytes.push_swap.Tie as tie

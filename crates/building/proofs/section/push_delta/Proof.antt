@@ -16,7 +16,7 @@ use Rattle.numbers.specs.Numbers.{storeIn}
 use Rattle.numbers.specs.Forms.{delta, formed, isForm}
 use Rattle.numbers.proofs.Adds.{push-large-mark}
 use Rattle.numbers.proofs.Forms.{unnamed, delta-formed}
-use Rattle.building.proofs.Ways.{Judged, put-done, put-judged, by-form}
+use Rattle.short.proofs.Judged.{Judged, put-done, put-judged, by-form}
 use Rattle.building.proofs.section.push_delta.Statement.{statement}
 use Rattle.building.proofs.section.push_delta.Tie as tie
 

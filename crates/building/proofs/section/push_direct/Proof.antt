@@ -14,7 +14,7 @@ use Rattle.numbers.specs.Numbers.{storeIn}
 use Rattle.numbers.specs.Forms.{direct, formed, isForm}
 use Rattle.numbers.proofs.Adds.{push-large-mark}
 use Rattle.numbers.proofs.Forms.{unnamed, direct-formed}
-use Rattle.building.proofs.Ways.{Judged, put-done, put-judged, by-form}
+use Rattle.short.proofs.Judged.{Judged, put-done, put-judged, by-form}
 use Rattle.building.proofs.section.push_direct.Statement.{statement}
 use Rattle.building.proofs.section.push_direct.Tie as tie
 

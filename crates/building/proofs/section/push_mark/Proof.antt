@@ -7,7 +7,7 @@ use Rattle.records.specs.Store.{wordsPerSection}
 use Rattle.calls.specs.Calls.{pushMark}
 use Rattle.numbers.specs.Numbers.{storeIn}
 use Rattle.numbers.proofs.Adds.{push-large-mark}
-use Rattle.building.proofs.Ways.{Judged, put-done, put-judged}
+use Rattle.short.proofs.Judged.{Judged, put-done, put-judged}
 use Rattle.building.proofs.section.push_mark.Statement.{statement}
 use Rattle.building.proofs.section.push_mark.Tie as tie
 

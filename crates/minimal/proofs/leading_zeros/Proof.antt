@@ -6,8 +6,8 @@ use native.Mathlib.Omega.{arith}
 use Prim.Native.Nat.{ℕ, _-_, _≤_, _<_}
 use lib.ListN.{length, getD}
 use borrow.Author.Count.{below-more}
-use Rattle.building.proofs.minimal.leading_zeros.Statement.{statement}
-use Rattle.building.proofs.minimal.leading_zeros.Tie as tie
+use Rattle.minimal.proofs.leading_zeros.Statement.{statement}
+use Rattle.minimal.proofs.leading_zeros.Tie as tie
 
 abbrev Inv-loop : tie.InvT-loop
 Inv-loop digits i₀ i = (i ≤ length digits) × ((k : ℕ) → k < i → getD digits k 0 ≡ 0)

@@ -8,9 +8,9 @@ use mathlib.Core.Path.{ap, _∙_}
 use mathlib.Core.List.{List}
 use lib.ListN.{length, take, drop, set, replicate, length-set}
 use Rattle.slices.proofs.Over.{has-room, length-over}
-use Rattle.building.proofs.Digits.{opcode-before}
-use Rattle.building.proofs.minimal.push_bytes.Statement.{statement}
-use Rattle.building.proofs.minimal.push_bytes.Tie as tie
+use Rattle.minimal.proofs.Digits.{opcode-before}
+use Rattle.minimal.proofs.push_bytes.Statement.{statement}
+use Rattle.minimal.proofs.push_bytes.Tie as tie
 
 slice-aggregate-write-bytes : tie.Need-slice-aggregate-write-bytes
 slice-aggregate-write-bytes c = search needs

@@ -9,9 +9,9 @@ use Rattle.records.specs.Store.{wordsPerSection}
 use Rattle.calls.specs.Calls.{pushMinimalU256}
 use Rattle.numbers.specs.Numbers.{storeIn}
 use Rattle.numbers.proofs.Adds.{push-bad-word}
-use Rattle.building.proofs.Ways.{Judged, pushed}
-use Rattle.building.proofs.minimal.push_minimal_u256.Statement.{statement}
-use Rattle.building.proofs.minimal.push_minimal_u256.Tie as tie
+use Rattle.short.proofs.Judged.{Judged, pushed}
+use Rattle.minimal.proofs.push_minimal_u256.Statement.{statement}
+use Rattle.minimal.proofs.push_minimal_u256.Tie as tie
 
 refusal-number-requires : tie.Need-refusal-number-requires
 refusal-number-requires c κs = search needs

@@ -12,8 +12,8 @@ use Rattle.records.specs.Sections.{ops}
 use Rattle.calls.specs.Calls.{minimalPush}
 use Rattle.numbers.specs.Numbers.{storeIn}
 use Rattle.numbers.proofs.Adds.{add-same}
-use Rattle.building.proofs.minimal.add_number.Statement.{statement}
-use Rattle.building.proofs.minimal.add_number.Tie as tie
+use Rattle.minimal.proofs.add_number.Statement.{statement}
+use Rattle.minimal.proofs.add_number.Tie as tie
 
 eight-bytes-requires : tie.Need-eight-bytes-requires
 eight-bytes-requires c κs = search needs

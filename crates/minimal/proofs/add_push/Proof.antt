@@ -11,9 +11,9 @@ use Rattle.records.specs.Sections.{ops}
 use Rattle.calls.specs.Calls.{minimalPush}
 use Rattle.numbers.specs.Numbers.{storeIn}
 use Rattle.numbers.proofs.Adds.{add-same}
-use Rattle.building.proofs.Digits.{minimal-of}
-use Rattle.building.proofs.minimal.add_push.Statement.{statement}
-use Rattle.building.proofs.minimal.add_push.Tie as tie
+use Rattle.minimal.proofs.Digits.{minimal-of}
+use Rattle.minimal.proofs.add_push.Statement.{statement}
+use Rattle.minimal.proofs.add_push.Tie as tie
 
 leading-zeros-requires : tie.Need-leading-zeros-requires
 leading-zeros-requires c κs = search needs

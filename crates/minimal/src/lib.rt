@@ -1,4 +1,5 @@
-// The minimal pushes: PUSH0 for 0, else the least PUSH1 to PUSH32 with its bytes, highest first.
+// Document 01, module 2: the minimal pushes by number: PUSH0 for 0, else the least PUSH1 to PUSH32 with its bytes, highest first.
+// Each answers the next state, or a refusal with nothing changed.
 use adding::BytesKind;
 use adding::add_bytes;
 use numbers::refusal_number;
@@ -15,7 +16,7 @@ ghost use Rattle.records.specs.Sections.{ops};
 ghost use Rattle.calls.specs.Calls.{minimalPush, pushMinimalU256, pushMinimalU64, pushMinimalU32, addReply, addAfter};
 ghost use Rattle.calls.specs.Calls.{pushReply, pushAfter};
 ghost use Rattle.numbers.specs.Numbers.{storeIn, builtNumber};
-ghost use Rattle.building.specs.Minimal.{LeadingZeros};
+ghost use Rattle.minimal.specs.Zeros.{LeadingZeros};
 
 // The bytes of a word.
 const WORD: usize = 32;

@@ -2,9 +2,9 @@
 -- Assumes nothing.
 use borrow.Author.Needs.{needs}
 use mathlib.Core.Path.{sym}
-use Rattle.building.proofs.Digits.{eight-bytes}
-use Rattle.building.proofs.minimal.eight_bytes.Statement.{statement}
-use Rattle.building.proofs.minimal.eight_bytes.Tie as tie
+use Rattle.minimal.proofs.Digits.{eight-bytes}
+use Rattle.minimal.proofs.eight_bytes.Statement.{statement}
+use Rattle.minimal.proofs.eight_bytes.Tie as tie
 
 cast-t4 : tie.Need-cast-t4
 cast-t4 c = search needs

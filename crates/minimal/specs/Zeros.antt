@@ -1,4 +1,4 @@
--- What the private functions of src/minimal.rt are equated with. Assumes nothing.
+-- What the scan of a number's bytes finds: the function `leading_zeros` is equated with it. Assumes nothing.
 use Prim.Native.Nat.{ℕ, _≤_, _<_}
 use mathlib.Core.Path.{_≡_}
 use mathlib.Core.List.{List}

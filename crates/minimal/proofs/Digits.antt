@@ -14,7 +14,7 @@ use Rattle.units.specs.Numbers.{number, bigEndian}
 use Rattle.units.proofs.BigEndian.{AllBytes, leastBytes-leading, bigEndian-leading}
 use Rattle.evm.specs.Opcodes.{pushOp}
 use Rattle.calls.specs.Calls.{minimalPush}
-use Rattle.building.specs.Minimal.{LeadingZeros}
+use Rattle.minimal.specs.Zeros.{LeadingZeros}
 
 -- a number's eight bytes
 pub eight-bytes : (v : ℕ)
