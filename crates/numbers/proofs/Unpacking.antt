@@ -1,5 +1,5 @@
 -- The number determines the answer: number, mid and low come back out, and so a state's counts do. Assumes nothing.
-use Prim.Native.Nat.{ℕ, _+_, _*_, _/_, _%_, _^_, _≤_, _<_}
+use Prim.Native.Nat.{ℕ, _*_, _/_, _%_, _^_, _≤_, _<_}
 use native.Mathlib.Omega.{arith}
 use mathlib.Core.Path.{_≡_, refl}
 use mathlib.Core.List.{List}
@@ -37,12 +37,16 @@ reply-back number given fits back (accepted x) h = simp (back x h .0, back x h .
 reply-back number given fits back (refused n i k) h =
     simp (number-back n k i (h .1), mid-back n k i (h .1), low-back n k i (h .1), ne-eqb n 0 (omega (arith, h .0)))
 
+-- a state's counts are those that it was made of
+pub state-back : (counts : Assembler) → counts .bytes < 2 ^ 32 → countsIn (stateNumber counts) ≡ counts
+state-back counts h =
+    let low : stateNumber counts % 2 ^ 32 ≡ counts .bytes = omega (arith, h) in
+    let high : stateNumber counts / 2 ^ 32 ≡ counts .sections = omega (arith, h) in
+    rw (low, high)
+
 -- the next state is the counts that the call leaves: an accepted answer is a state
 pub stored-state : (counts : Assembler) → BuiltPacks (accepted counts) → countsIn (builtNumber (accepted counts)) ≡ counts
-stored-state counts h =
-    let low : stateNumber counts % 2 ^ 32 ≡ counts .bytes = omega (arith, h .1, h .2) in
-    let high : stateNumber counts / 2 ^ 32 ≡ counts .sections = omega (arith, h .1, h .2) in
-    rw (low, high)
+stored-state counts h = state-back counts (h .2)
 
 -- every answer that is given comes back out: the number determines it
 pub built-back : (w : ℕ) (p : Push) (st : Store) → builtIn (builtNumber (pushReply w p st)) ≡ pushReply w p st

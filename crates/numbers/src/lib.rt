@@ -14,6 +14,9 @@ ghost use Rattle.numbers.specs.Numbers.{packed, countsIn, stateNumber, r
 // One section more, as a state.
 pub const SECTION: u64 = 0x1_0000_0000;
 
+// One more in the number of an answer.
+pub const NUMBER: u64 = 0x100_0000_0000_0000;
+
 // The answer to an argument that names nothing.
 pub const NAMES_NOTHING: u64 = 0xff00_0000_0000_0000;
 
@@ -38,7 +41,7 @@ pub fn state_of(counts: Assembler) -> u64
 pub fn refused_at(number: u8, section: u32) -> u64
     ensures { λ r. ⌜ r ≡ packed number 0 section ⌝ }
 {
-    (number as u64) * 0x100_0000_0000_0000 + (section as u64)
+    (number as u64) * NUMBER + (section as u64)
 }
 
 // Any refusal.
@@ -46,7 +49,5 @@ pub fn refusal_number(refusal: Refusal) -> u64
     ensures { λ r. ⌜ r ≡ refusalNumber refusal ⌝ }
 {
     let passes = refusal.passes() % 0x100_0000;
-    (refusal.number() as u64) * 0x100_0000_0000_0000
-        + (passes as u64) * SECTION
-        + (refusal.section() as u64)
+    (refusal.number() as u64) * NUMBER + (passes as u64) * SECTION + (refusal.section() as u64)
 }

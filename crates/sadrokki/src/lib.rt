@@ -1,5 +1,5 @@
-// The library for other languages: functions exported under their own names, on numbers and slices. Each answers one number and takes
-// every argument: none has a `requires`. From C a slice is two arguments, a pointer and a length (tools/c/sadrokki.h).
+// The library for other languages: functions exported under their own names, on numbers and slices, and nothing else. Each answers one
+// number and takes every argument: none has a `requires`. From C a slice is two arguments, a pointer and a length (tools/c/sadrokki.h).
 //
 // State: a store's two counts as one number, sections * 2^32 + stored bytes. Any number is taken: a state that no call answered is
 // judged as its counts are, so that a refusal taken as a state is answered with 6 at section 0 by every later call.
@@ -13,9 +13,6 @@
 // `sadrokki_lands`, `sadrokki_push_size` and `sadrokki_bytes_to_hold` can't be refused and answer their result alone.
 //
 // Form of a reference: set size (0 unsized, else 1 to 4) plus 8 if pushed. 0 to 4 and 8 to 12; any other names nothing.
-mod assembling;
-mod building;
-mod facts;
-mod form;
-mod number;
-mod short;
+mod assemble;
+mod build;
+mod small;

@@ -1,6 +1,11 @@
--- What the enum that a building call answers stands for. Assumes nothing.
-use Rattle.units.specs.Reply.{accepted, refusalReply}
+-- What the enum that a building call answers stands for, and the reply that its number is. Assumes nothing.
+use Prim.Native.Nat.{ℕ}
+use mathlib.Core.Bool.{cond}
+use lib.Dec.{ltb, eqb}
+use Rattle.units.specs.Replies.{damaged}
+use Rattle.units.specs.Reply.{accepted, refused, refusalReply}
 use Rattle.calls.specs.Calls.{BuiltReply}
+use Rattle.numbers.specs.Numbers.{numberIn, lowIn, countsIn}
 use Rattle.store.specs.declared.Built.{Built}
 use Rattle.store.specs.declared.Built.the-variants.{Stored, Refused}
 
@@ -8,3 +13,9 @@ use Rattle.store.specs.declared.Built.the-variants.{Stored, Refused}
 abbrev pub builtReply : Built → BuiltReply
 builtReply (Stored counts) = accepted counts
 builtReply (Refused r) = refusalReply r
+
+-- accepted where the number is 0; 6 has a section, 1 to 5 have none, and no building call has passes
+unfoldable pub builtOf : ℕ → BuiltReply
+builtOf answer =
+    cond (eqb (numberIn answer) 0) (accepted (countsIn answer))
+    (cond (ltb (numberIn answer) damaged) (refused (numberIn answer) 0 0) (refused damaged (lowIn answer) 0))

@@ -1,5 +1,0 @@
-pub mod Bounds
-pub mod Unpacking
-pub mod Answers
-pub mod Ways
-pub mod References

@@ -1,4 +1,0 @@
-pub mod Numbers
-pub mod Short
-pub mod Forms
-pub mod Facts

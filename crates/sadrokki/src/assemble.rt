@@ -1,0 +1,56 @@
+// Assembly and the listing.
+ghost use mathlib.Core.Path.{_≡_};
+ghost use lib.ListN.{length};
+ghost use Rattle.records.specs.Store.{wordsPerSection};
+ghost use Rattle.assembler.specs.Assemble.{assembly};
+ghost use Rattle.assembler.specs.Demand3.{Demand3};
+ghost use Rattle.assembler.specs.Instructions.{CodePushes};
+ghost use Rattle.listing.specs.Answer.{listingReply, listingBuffer};
+ghost use Rattle.numbers.specs.Numbers.{storeIn};
+ghost use Rattle.answers.specs.Numbers.{assembledNumber, listedNumber};
+
+// Writes the code into the result from the position on, and the marks' offsets into the table. Refusals: 6 to 13, with the table all 0
+// and the result unchanged.
+#[no_mangle]
+pub extern "C" fn sadrokki_assemble(
+    state: u64,
+    bytes: &[u8],
+    words: &[u32],
+    table: &mut [u32],
+    result: &mut [u8],
+    position: usize,
+) -> u64
+    ensures reply { λ r. ⌜ r ≡ assembledNumber (assembly wordsPerSection (storeIn state (now (bytes .entry)) (now (words .entry)))
+        (length (now (table .entry))) (now (result .entry)) position .reply) ⌝ }
+    ensures table { λ _. ⌜ now (table .exit) ≡ assembly wordsPerSection (storeIn state (now (bytes .entry)) (now (words .entry)))
+        (length (now (table .entry))) (now (result .entry)) position .table ⌝ }
+    ensures result { λ _. ⌜ now (result .exit) ≡ assembly wordsPerSection (storeIn state (now (bytes .entry)) (now (words .entry)))
+        (length (now (table .entry))) (now (result .entry)) position .result ⌝ }
+    ensures shortest { λ _. ⌜ Demand3 wordsPerSection (storeIn state (now (bytes .entry)) (now (words .entry)))
+        (length (now (table .entry))) (now (result .entry)) position
+        (assembly wordsPerSection (storeIn state (now (bytes .entry)) (now (words .entry)))
+        (length (now (table .entry))) (now (result .entry)) position .reply)
+        (now (table .exit)) (now (result .exit)) ⌝ }
+    ensures pushes { λ _. ⌜ CodePushes wordsPerSection (storeIn state (now (bytes .entry)) (now (words .entry))) position
+        (assembly wordsPerSection (storeIn state (now (bytes .entry)) (now (words .entry)))
+        (length (now (table .entry))) (now (result .entry)) position .reply)
+        (now (table .exit)) (now (result .exit)) ⌝ }
+{
+    answers::assemble(state, bytes, words, table, result, position)
+}
+
+// Writes the listing to the text's start. Refusals: 6, 14, with the text unchanged.
+#[no_mangle]
+pub extern "C" fn sadrokki_write_asm(
+    state: u64,
+    bytes: &[u8],
+    words: &[u32],
+    text: &mut [u8],
+) -> u64
+    ensures answer { λ r. ⌜ r ≡ listedNumber (listingReply wordsPerSection (storeIn state (now (bytes .entry)) (now (words .entry)))
+        (now (text .entry))) ⌝ }
+    ensures written { λ _. ⌜ now (text .exit) ≡ listingBuffer wordsPerSection
+        (storeIn state (now (bytes .entry)) (now (words .entry))) (now (text .entry)) ⌝ }
+{
+    answers::write_asm(state, bytes, words, text)
+}
