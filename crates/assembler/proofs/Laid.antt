@@ -30,15 +30,15 @@ use Rattle.layout.proofs.Moves.{Still, or-false}
 use Rattle.layout.proofs.Rule.{Sizes}
 use Rattle.layout.proofs.Today.{today}
 use Rattle.undamaged.specs.View.{Undamaged, Facts}
-use Rattle.undamaged.proofs.Reading.{View, unread, as-ops, as-data, as-mark, as-reference, view}
 use Rattle.undamaged.proofs.Soundness.{undamaged-iff}
 use Rattle.settling.specs.Settle.{Settlement, settlement, settling}
-use Rattle.settling.proofs.Sections.{decode-count, span-end}
+use Rattle.undamaged.proofs.Sections.{section-held}
+use Rattle.settling.proofs.Sections.{decode-count}
 use Rattle.emission.specs.Emission.{codeOf}
 use Rattle.emission.proofs.Lengths.{length-code}
 use Rattle.emission.proofs.Places.{settled-still, still-sum}
 use Rattle.assembler.specs.Assemble.{written}
-use Rattle.assembler.specs.Writing.{MarksIn, WritableRead}
+use Rattle.assembler.specs.Writing.{MarksIn, Writable}
 use Rattle.assembler.proofs.Decoded.{decode-reference}
 use Rattle.assembler.proofs.Outcomes.{LaidBy, written-same}
 
@@ -80,15 +80,6 @@ marks-in n table (Delta d) e h b =
     let q = or-false (leb n (d .start .0)) (leb n (d .end .0)) h in
     (omega (arith, leb-false n (d .start .0) (q .0)), omega (arith, leb-false n (d .end .0) (q .1)), ltb-false (entry table (d .end .0)) (entry table (d .start .0)) b)
 
--- three words that are readable, whose span is in the byte slice and whose marks are in the table
-writable-view : {k a b : ℕ} {v : SectionRead} (held table : List ℕ) → View k a b v → unreadable v ≡ false → (isSpan k ≡ true → b ≤ length held)
-    → ((r : AsmReference) → v ≡ Read (MarkRef r) → MarksIn table (r .«mark_ref»)) → WritableRead held table v
-writable-view held table unread u s m = absurd (true≢false u)
-writable-view held table (as-ops e l) u s m = (l, s (ap isSpan e))
-writable-view held table (as-data e l) u s m = (l, s (ap isSpan e))
-writable-view held table (as-mark n i) u s m = tt
-writable-view held table (as-reference n r) u s m = m r refl
-
 -- the section is a reference that neither 7 nor 12 refuses
 section-marks : (n : ℕ) (table : List ℕ) (ss : List Section) (i : ℕ) (r : AsmReference) → length table ≡ n → sectionAt ss i ≡ reference r
     → shortAt n ss i ≡ false → backwardAt table ss i ≡ false → MarksIn table (r .«mark_ref»)
@@ -107,7 +98,7 @@ pub record LaidFacts (w n : ℕ) (st : Store) (table : List ℕ) (size k : ℕ) 
   pub still : Still (Sizes today) (decode w st) 0 (entry table) size
   -- the length answered is the code's
   pub codeLong : length (codeOf (entry table) (decode w st)) ≡ size
-  pub writable : (i : ℕ) → i < st .sections → WritableRead (st .bytes) table (readSection (sectionWords w st i))
+  pub writable : (i : ℕ) → i < st .sections → Writable (st .bytes) table (sectionWords w st i)
 
 -- it is known
 pub laid : (w n : ℕ) (st : Store) (table : List ℕ) (size k : ℕ) → LaidBy w n st table size k → LaidFacts w n st table size k
@@ -129,6 +120,8 @@ laid w n st table size k e =
       codeLong = length-code (entry table) ss ∙ sym (still-sum (entry table) ss 0 size (q .1) ∙ zero-add _);
       writable = λ i l.
           let here : i < length ss = omega (arith, decode-count w st) in
-          writable-view (st .bytes) table (view (sectionWords w st i)) (f .readable i l) (span-end w st i f l)
-          (λ r is. section-marks n table ss i r (q .0) (decode-reference w st i r l is) (s .0 .0 i here) (s .2 i here));
+          record {
+            here = section-held w st i f l;
+            marks = λ r is. section-marks n table ss i r (q .0) (decode-reference w st i r l is) (s .0 .0 i here) (s .2 i here);
+          };
     }

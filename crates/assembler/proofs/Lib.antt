@@ -1,3 +1,4 @@
+pub mod SectionBytes
 pub mod Writes
 pub mod Decoded
 pub mod Outcomes
@@ -8,4 +9,3 @@ pub mod Answers
 pub mod Assembles
 pub mod Leaves
 pub mod Hand
-pub mod Words

@@ -1,55 +1,65 @@
--- What the private functions of emission ask of what they are lent: they are called after the settling, which refused all else.
--- Assumes nothing.
-use Prim.Native.Nat.{ℕ, _≤_, _<_}
-use mathlib.Core.Bool.{false}
-use mathlib.Core.List.{List}
+-- Private to the writer, src/write.rt: what its functions ask and promise. No public contract cites it. They are called after the
+-- settling, which refused all else. Assumes nothing.
+use Prim.Native.Nat.{ℕ, _+_, _%_, _≤_, _<_}
+use mathlib.Core.Path.{_≡_}
+use mathlib.Core.Bool.{cond}
+use mathlib.Core.List.{List, [], _∷_, _++_}
+use lib.Dec.{leb, eqb}
 use lib.ListN.{length}
-use Rattle.units.specs.declared.BytesSpan.{BytesSpan}
+use Rattle.units.specs.Numbers.{bigEndian}
+use Rattle.units.specs.Form.{countByForm, pushZeroByForm}
 use Rattle.units.specs.declared.MarkReference.{MarkReference}
 use Rattle.units.specs.declared.MarkReference.the-variants.{Direct, Delta}
-use Rattle.units.specs.declared.SetSize.the-variants.{Unsized}
 use Rattle.units.specs.declared.AsmReference.{AsmReference}
+use Rattle.records.specs.Record.{directKind, readSection, formOf}
+use Rattle.records.specs.Sections.{sectionRead}
 use Rattle.records.specs.declared.record.StoredSection.{StoredSection}
-use Rattle.records.specs.declared.record.AsmSection.{AsmSection}
-use Rattle.records.specs.declared.record.AsmSection.the-variants.{Mark, Ops, Data, MarkRef}
-use Rattle.records.specs.declared.record.SectionRead.{SectionRead}
-use Rattle.records.specs.declared.record.SectionRead.the-variants.{Read, Damaged}
-use Rattle.layout.specs.Passes.{entry}
-use Rattle.settling.specs.Words.{pieceOfWords, Readable}
-use Rattle.settling.specs.declared.piece.Piece.{Piece}
-use Rattle.settling.specs.declared.piece.Piece.the-variants as piece
+use Rattle.records.specs.declared.record.AsmSection.the-variants.{MarkRef}
+use Rattle.records.specs.declared.record.SectionRead.the-variants.{Read}
+use Rattle.undamaged.specs.Section.{ReadIn}
+use Rattle.slices.specs.Over.{over}
+use Rattle.layout.specs.Passes.{entry, valueBy}
+use Rattle.emission.specs.Emission.{opcode, sectionBytes}
+
+-- there is room in the result for `added` from `at` on
+abbrev pub Fits : List ℕ → ℕ → List ℕ → Type 0
+Fits result at added = at + length added ≤ length result
+
+-- `added` was written over the result from `at` on, and `next` is the place after it
+pub record Wrote (before : List ℕ) (at : ℕ) (added : List ℕ) (next : ℕ) (after : List ℕ) : Type 0 where
+  pub count : next ≡ at + length added
+  pub result : after ≡ over before at added
+
+-- the bytes of the section that three words are
+abbrev pub wordsBytes : List ℕ → List ℕ → StoredSection → List ℕ
+wordsBytes table bytes x = sectionBytes (entry table) (sectionRead bytes (readSection x))
+
+-- the marks of a reference, from its words
+unfoldable pub marksOf : StoredSection → MarkReference
+marksOf x =
+    cond (eqb (x .kind) directKind)
+    (Direct (record { 0 = x .first }))
+    (Delta (record { start = record { 0 = x .first }; end = record { 0 = x .second } }))
+
+-- its value by a table
+abbrev pub valueOf : List ℕ → StoredSection → ℕ
+valueOf table x = valueBy (entry table) (marksOf x)
+
+-- the bytes of a value, by a reference's form
+unfoldable pub formBytes : ℕ → ℕ → List ℕ
+formBytes f v = cond (pushZeroByForm f v) (0x5f ∷ []) (opcode (leb 8 f) (countByForm f v) ++ bigEndian (countByForm f v) v)
 
 -- a reference's marks are in the table, and a delta isn't backward
 abbrev pub MarksIn : List ℕ → MarkReference → Type 0
 MarksIn table (Direct m) = m .0 < length table
 MarksIn table (Delta s) = (s .start .0 < length table) × (s .end .0 < length table) × (entry table (s .start .0) ≤ entry table (s .end .0))
 
--- the bytes of a span are in the byte slice
-abbrev pub SpanIn : List ℕ → BytesSpan → Type 0
-SpanIn bytes s = (s .start .0 ≤ s .end .0) × (s .end .0 ≤ length bytes)
+-- three words of an undamaged store whose marks, if they are a reference, are so
+pub record Writable (bytes table : List ℕ) (x : StoredSection) : Type 0 where
+  pub here : ReadIn (length bytes) (readSection x)
+  pub marks : (r : AsmReference) → readSection x ≡ Read (MarkRef r) → MarksIn table (r .«mark_ref»)
 
--- a section that can be written
-abbrev pub Writable : List ℕ → List ℕ → AsmSection → Type 0
-Writable bytes table (Mark m) = Unit
-Writable bytes table (Ops s) = SpanIn bytes s
-Writable bytes table (Data s) = SpanIn bytes s
-Writable bytes table (MarkRef r) = MarksIn table (r .«mark_ref»)
-
--- three words that are read as one
-abbrev pub WritableRead : List ℕ → List ℕ → SectionRead → Type 0
-WritableRead bytes table (Read s) = Writable bytes table s
-WritableRead bytes table Damaged = ⊥
-
--- the reference that a piece is (where it is none, some reference)
-abbrev pub referenceOf : Piece → AsmReference
-referenceOf (piece.Mark m) = record { «mark_ref» = Direct m; «set_size» = Unsized; pushed = false }
-referenceOf (piece.Block k) = record { «mark_ref» = Direct (record { 0 = 0 }); «set_size» = Unsized; pushed = false }
-referenceOf (piece.Reference r) = r
-
--- the reference that three words are read as
-abbrev pub referenceIn : StoredSection → AsmReference
-referenceIn x = referenceOf (pieceOfWords x)
-
--- they are read as one
-abbrev pub IsReference : StoredSection → Type 0
-IsReference x = Readable x × (3 ≤ x .kind)
+-- the words of a reference whose marks are so, its set size at most 4
+pub record WritableReference (table : List ℕ) (x : StoredSection) : Type 0 where
+  pub marks : MarksIn table (marksOf x)
+  pub size : formOf x % 8 ≤ 4

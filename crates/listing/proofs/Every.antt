@@ -1,28 +1,24 @@
--- Laws of the walk over every section of a store: what is left after a section, that there is room, and that none is damaged.
+-- Laws of the walk over every section of a store: what is left after a section, and that there is room.
 -- Assumes nothing.
 use Prim.Native.Nat.{ℕ, zero, suc, _+_, _*_, _-_, _≤_, _<_, _^_}
 use native.Mathlib.Omega.{arith}
 use native.Mathlib.Nat.{sub-zero}
 use native.Mathlib.Numerals.{add-one}
 use mathlib.Core.Path.{_≡_, refl, sym, ap, _∙_, subst}
-use mathlib.Core.Bool.{true, false, true≢false}
 use mathlib.Core.List.{List, [], _++_}
 use lib.ListN.{length, length-append}
 use Rattle.records.specs.Record.{readSection}
 use Rattle.records.specs.Store.{Store, sectionWords}
-use Rattle.records.specs.Damage.{unreadable, wholeSoundness}
-use Rattle.records.specs.declared.damage.Soundness.the-variants.{Sound}
-use Rattle.records.specs.Sections.{Section, sectionOf, sectionRead, decodeAt, decodeFrom, decode}
+use Rattle.records.specs.Sections.{Section, sectionRead, decodeAt, decodeFrom, decode}
 use Rattle.records.specs.declared.record.StoredSection.{StoredSection}
-use Rattle.records.specs.declared.record.AsmSection.{AsmSection}
-use Rattle.records.specs.declared.record.AsmSection.the-variants.{Mark, Ops, Data, MarkRef}
-use Rattle.records.specs.declared.record.SectionRead.{SectionRead}
-use Rattle.records.specs.declared.record.SectionRead.the-variants.{Read, Damaged}
-use Rattle.listing.specs.Put.{Put, SectionIn, ReadIn, Listable}
+use Rattle.undamaged.specs.View.{Undamaged, Facts}
+use Rattle.undamaged.specs.Section.{ReadIn}
+use Rattle.undamaged.proofs.Soundness.{undamaged-iff}
+use Rattle.undamaged.proofs.Sections.{section-in, section-held}
+use Rattle.listing.specs.Put.{Put, Room, wordsText, Listable}
 use Rattle.listing.specs.Listing.{sectionText, listing}
 use Rattle.listing.proofs.Puts.{Left, left-step, left-room, left-done, room-first}
 use Rattle.listing.proofs.Turns.{left-is}
-use Rattle.listing.proofs.Undamaged.{Facts, sound-facts, Holds, section-holds}
 use Rattle.listing.proofs.Lengths.{section-length}
 
 -- the sections from i on
@@ -51,11 +47,6 @@ module _ (w : ℕ) (st : Store) where
       let e : st .sections - i ≡ 0 = omega arith in
       ap (λ (n : ℕ). listing (decodeFrom w st n i)) e
 
-  -- a section that was read
-  at-is : (i : ℕ) (s : AsmSection) → readSection (sectionWords w st i) ≡ Read s → decodeAt w st i ≡ sectionOf (st .bytes) s
-  unfolding decodeAt
-  at-is i s e = ap (sectionRead (st .bytes)) e
-
   -- one of the words x
   at-words : (i : ℕ) (x : StoredSection) → x ≡ sectionWords w st i → decodeAt w st i ≡ sectionRead (st .bytes) (readSection x)
   unfolding decodeAt
@@ -65,14 +56,14 @@ module _ (w : ℕ) (st : Store) where
 
   module _ {t now : List ℕ} {at here : ℕ} (i : ℕ) (h : i < st .sections) (x : StoredSection) (e : x ≡ sectionWords w st i) (l : Left t at (listing (decode w st)) now here (rest w st i)) where
     -- what is left, its first section by its words
-    split : Left t at (listing (decode w st)) now here (sectionText (sectionRead (st .bytes) (readSection x)) ++ rest w st (i + 1))
+    split : Left t at (listing (decode w st)) now here (wordsText (st .bytes) x ++ rest w st (i + 1))
     split = left-is (rest-next i h ∙ ap (λ (y : Section). sectionText y ++ rest w st (i + 1)) (at-words i x e)) l
 
-    pub every-turn : {m : List ℕ} {r : ℕ} → Put now here (sectionText (sectionRead (st .bytes) (readSection x))) r m → Left t at (listing (decode w st)) m r (rest w st (i + 1))
+    pub every-turn : {m : List ℕ} {r : ℕ} → Put now here (wordsText (st .bytes) x) r m → Left t at (listing (decode w st)) m r (rest w st (i + 1))
     every-turn p = left-step (rest w st (i + 1)) split p
 
-    pub every-room : at + length (listing (decode w st)) < 2 ^ 64 → here + length (sectionText (sectionRead (st .bytes) (readSection x))) < 2 ^ 64
-    every-room room = room-first here (sectionText (sectionRead (st .bytes) (readSection x))) (rest w st (i + 1)) (left-room split room)
+    pub every-room : Room at (listing (decode w st)) → Room here (wordsText (st .bytes) x)
+    every-room room = room-first here (wordsText (st .bytes) x) (rest w st (i + 1)) (left-room split room)
 
   pub every-done : {t now : List ℕ} {at here : ℕ} (i : ℕ) → st .sections ≤ i → Left t at (listing (decode w st)) now here (rest w st i) → Put t at (listing (decode w st)) here now
   every-done i h l = left-done (left-is (rest-none i h) l)
@@ -80,38 +71,14 @@ module _ (w : ℕ) (st : Store) where
   -- ---- in an undamaged store
 
   module _ (facts : Facts w st) where
-    holds : (i : ℕ) (s : AsmSection) → i < st .sections → readSection (sectionWords w st i) ≡ Read s → Holds (st .storedBytes) (Read s)
-    holds i s h e = subst (Holds (st .storedBytes)) e (section-holds (st .storedBytes) (sectionWords w st i) (facts .inside i h))
-
-    -- no section is damaged
-    never : (i : ℕ) → i < st .sections → readSection (sectionWords w st i) ≡ Damaged → ⊥
-    never i h e = true≢false (sym (ap unreadable e) ∙ facts .readable i h)
-
-    -- its bytes are there
-    section-in : (i : ℕ) (s : AsmSection) → i < st .sections → readSection (sectionWords w st i) ≡ Read s → SectionIn (length (st .bytes)) s
-    section-in i s h e = weaker s (holds i s h e)
-      where
-        weaker : (s : AsmSection) → Holds (st .storedBytes) (Read s) → SectionIn (length (st .bytes)) s
-        weaker (Mark m) k = tt
-        weaker (Ops p) k = (k .0, omega (arith, k .1, facts .bytesFit))
-        weaker (Data p) k = (k .0, omega (arith, k .1, facts .bytesFit))
-        weaker (MarkRef r) k = tt
-
-    -- so of its words
-    pub read-in : (i : ℕ) (x : StoredSection) → i < st .sections → x ≡ sectionWords w st i → ReadIn (length (st .bytes)) (readSection x)
-    read-in i x h e = subst (λ (y : StoredSection). ReadIn (length (st .bytes)) (readSection y)) (sym e) (go (readSection (sectionWords w st i)) refl)
-      where
-        go : (v : SectionRead) → readSection (sectionWords w st i) ≡ v → ReadIn (length (st .bytes)) v
-        go (Read s) k = section-in i s h k
-        go Damaged k = absurd (never i h k)
+    -- the words x of section i
+    pub words-in : (i : ℕ) (x : StoredSection) → i < st .sections → x ≡ sectionWords w st i → ReadIn (length (st .bytes)) (readSection x)
+    words-in i x h e = subst (λ (y : StoredSection). ReadIn (length (st .bytes)) (readSection y)) (sym e) (section-held w st i facts h)
 
     -- the length of its text
     at-length : (i : ℕ) → i < st .sections → length (sectionText (decodeAt w st i)) ≤ 2 ^ 30
-    at-length i h = go (readSection (sectionWords w st i)) refl
-      where
-        go : (v : SectionRead) → readSection (sectionWords w st i) ≡ v → length (sectionText (decodeAt w st i)) ≤ 2 ^ 30
-        go (Read s) e = rw (at-is i s e) (section-length (st .storedBytes) (st .bytes) s (facts .bytesLimit) (holds i s h e))
-        go Damaged e = absurd (never i h e)
+    unfolding decodeAt
+    at-length i h = section-length (st .storedBytes) (st .bytes) (readSection (sectionWords w st i)) (facts .bytesLimit) (section-in w st i facts h)
 
     from-length : (k i : ℕ) → i + k ≤ st .sections → length (listing (decodeFrom w st k i)) ≤ k * 2 ^ 30
     unfolding decodeFrom listing
@@ -125,5 +92,5 @@ module _ (w : ℕ) (st : Store) where
     listing-short = omega (arith, from-length (st .sections) 0 (omega arith), facts .sectionsLimit)
 
 -- an undamaged store has room from the text's start on
-pub listable : (w : ℕ) (st : Store) → wholeSoundness w st ≡ Sound → Listable w st 0
-listable w st e = record { sound = e; room = omega (arith, listing-short w st (sound-facts w st e)) }
+pub listable : (w : ℕ) (st : Store) → Undamaged w st → Listable w st 0
+listable w st u = record { sound = u; room = omega (arith, listing-short w st (undamaged-iff w st .0 u)) }

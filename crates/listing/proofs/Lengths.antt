@@ -22,15 +22,15 @@ use Rattle.units.specs.declared.AsmReference.{AsmReference}
 use Rattle.units.specs.Reference.{refSizeBytes}
 use Rattle.records.specs.Record.{maxMark}
 use Rattle.records.specs.Store.{maxBytes}
-use Rattle.records.specs.Sections.{sectionOf}
-use Rattle.records.specs.declared.record.AsmSection.{AsmSection}
+use Rattle.records.specs.Sections.{sectionRead}
 use Rattle.records.specs.declared.record.AsmSection.the-variants.{Mark, Ops, Data, MarkRef}
-use Rattle.records.specs.declared.record.SectionRead.the-variants.{Read}
+use Rattle.records.specs.declared.record.SectionRead.{SectionRead}
+use Rattle.records.specs.declared.record.SectionRead.the-variants.{Read, Damaged}
+use Rattle.undamaged.specs.Section.{spanBytes, SmallMarks, ReadIn}
 use Rattle.listing.specs.Decimal.{decimal}
 use Rattle.listing.specs.Listing.{hex, markName, markLine, dataLine, cutText, immediateText, instructionLine, instructionLines, opsLines, pushText, deltaText, marksText, sizeText, referenceLine, sectionText}
 use Rattle.listing.proofs.Digits.{decimal-length}
 use Rattle.listing.proofs.Turns.{hex-length}
-use Rattle.listing.proofs.Undamaged.{MarksIn, Holds}
 
 -- ---- marks and data
 
@@ -97,7 +97,7 @@ delta-length : (a b : ℕ) → length (asBytes "(" ++ markName a ++ asBytes " - 
 unfolding asBytes
 delta-length a b = simp length-append (omega (arith, name-length a, name-length b))
 
-marks-length : (m : MarkReference) → MarksIn m → length (marksText m) ≤ 17 + 2 * maxMark
+marks-length : (m : MarkReference) → SmallMarks m → length (marksText m) ≤ 17 + 2 * maxMark
 unfolding deltaText
 marks-length (Direct m) h = omega (arith, name-length (m .0))
 marks-length (Delta d) h = omega (arith, delta-length (d .end .0) (d .start .0), h .0, h .1)
@@ -110,7 +110,7 @@ size-length (Sized S2) = omega (arith, decimal-length 2)
 size-length (Sized S3) = omega (arith, decimal-length 3)
 size-length (Sized S4) = omega (arith, decimal-length 4)
 
-reference-length : (r : AsmReference) → MarksIn (r .«mark_ref») → length (referenceLine r) ≤ 31 + 2 * maxMark
+reference-length : (r : AsmReference) → SmallMarks (r .«mark_ref») → length (referenceLine r) ≤ 31 + 2 * maxMark
 unfolding referenceLine asBytes
 reference-length r h =
     simp length-append (omega (arith, push-length (r .pushed), marks-length (r .«mark_ref») h, size-length (r .«set_size»)))
@@ -121,10 +121,9 @@ reference-length r h =
 part-length : (a b : ℕ) (bs : List ℕ) → length (slice a b bs) ≤ b
 part-length a b bs = omega (arith, length-drop a (take b bs), length-take b bs)
 
-pub section-length : (n : ℕ) (bs : List ℕ) (s : AsmSection) → n ≤ maxBytes → Holds n (Read s) → length (sectionText (sectionOf bs s)) ≤ 2 ^ 30
-section-length n bs (Mark m) l h = omega (arith, mark-length (m .0))
-section-length n bs (Ops s) l h =
-    omega (arith, ops-length (slice (s .start .0) (s .end .0) bs), part-length (s .start .0) (s .end .0) bs, h .1)
-section-length n bs (Data s) l h =
-    omega (arith, data-length (slice (s .start .0) (s .end .0) bs), part-length (s .start .0) (s .end .0) bs, h .1)
-section-length n bs (MarkRef r) l h = omega (arith, reference-length r h)
+pub section-length : (n : ℕ) (bs : List ℕ) (v : SectionRead) → n ≤ maxBytes → ReadIn n v → length (sectionText (sectionRead bs v)) ≤ 2 ^ 30
+section-length n bs Damaged l h = absurd h
+section-length n bs (Read (Mark m)) l h = omega (arith, mark-length (m .0))
+section-length n bs (Read (Ops s)) l h = omega (arith, ops-length (spanBytes bs s), part-length (s .start .0) (s .end .0) bs, h .1)
+section-length n bs (Read (Data s)) l h = omega (arith, data-length (spanBytes bs s), part-length (s .start .0) (s .end .0) bs, h .1)
+section-length n bs (Read (MarkRef r)) l h = omega (arith, reference-length r h)

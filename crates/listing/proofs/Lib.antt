@@ -1,10 +1,10 @@
 pub mod Digits
 pub mod Puts
 pub mod Turns
-pub mod Undamaged
+pub mod Rooms
 pub mod Lengths
 pub mod Every
+pub mod SectionLines
 pub mod Answers
 pub mod Examples
 pub mod Held
-pub mod Words

@@ -7,7 +7,7 @@ use mathlib.Core.Path.{_≡_, refl, sym, ap, _∙_}
 use mathlib.Core.List.{List, [], _∷_, _++_}
 use lib.ListN.{length, set, length-append}
 use lib.Seq.{sets, length-sets, set-out}
-use Rattle.listing.specs.Put.{Put}
+use Rattle.listing.specs.Put.{Put, Room}
 
 -- a text after another
 sets-append : (x y t : List ℕ) (at : ℕ) → sets t at (x ++ y) ≡ sets (sets t at x) (at + length x) y
@@ -32,11 +32,11 @@ pub put-length : {t m : List ℕ} {at r : ℕ} {x : List ℕ} → Put t at x r m
 put-length {t} {m} {at} {r} {x} p = ap length (p .text) ∙ length-sets t at x
 
 -- there is room for the first of two texts
-pub room-first : (at : ℕ) (x y : List ℕ) → at + length (x ++ y) < 2 ^ 64 → at + length x < 2 ^ 64
+pub room-first : (at : ℕ) (x y : List ℕ) → Room at (x ++ y) → Room at x
 room-first at x y h = omega (arith, length-append x y)
 
 -- and, after it, for the second
-pub room-next : {t m : List ℕ} {at r : ℕ} {x : List ℕ} (y : List ℕ) → Put t at x r m → at + length (x ++ y) < 2 ^ 64 → r + length y < 2 ^ 64
+pub room-next : {t m : List ℕ} {at r : ℕ} {x : List ℕ} (y : List ℕ) → Put t at x r m → Room at (x ++ y) → Room r y
 room-next {x = x} y p h = omega (arith, length-append x y, p .count)
 
 -- a walk: putting what is left from where it stands is putting the whole from the start
@@ -61,7 +61,7 @@ left-step {t} {at} {whole} {now} {m} {here} {r} {x} y l p = record {
     put-all m r y = record { count = refl; text = refl }
 
 -- there is room for what is left
-pub left-room : {t : List ℕ} {at : ℕ} {whole now : List ℕ} {here : ℕ} {rest : List ℕ} → Left t at whole now here rest → at + length whole < 2 ^ 64 → here + length rest < 2 ^ 64
+pub left-room : {t : List ℕ} {at : ℕ} {whole now : List ℕ} {here : ℕ} {rest : List ℕ} → Left t at whole now here rest → Room at whole → Room here rest
 left-room l h = omega (arith, l .count)
 
 -- it ends with nothing left

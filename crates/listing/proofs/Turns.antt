@@ -10,7 +10,7 @@ use lib.ListN.{length, getD, take, drop, length-append, length-drop, drop-of-len
 use lib.Seq.{slice, drop-cons, slice-cons, slice-empty, length-slice, take-all, length-take-le, drop-at, take-add, take-take, drop-drop}
 use lib.Dec.{ltb, eqb}
 use borrow.Author.Tests.{lt-ltb, le-ltb, ltb-true, ltb-false, ne-eqb}
-use Rattle.listing.specs.Put.{Put, placedAt}
+use Rattle.listing.specs.Put.{Put, Room, immediateAt, placedAt}
 use Rattle.listing.specs.Decimal.{digit, decimal}
 use Rattle.opcodes.specs.Text.{asBytes}
 use Rattle.evm.specs.YellowPaper.{instructionLength}
@@ -28,10 +28,14 @@ left-is {t} {at} {whole} {now} {here} e l = subst (λ (x : List ℕ). Left t at 
 pub put-is : {t m : List ℕ} {at r : ℕ} {x y : List ℕ} → x ≡ y → Put t at x r m → Put t at y r m
 put-is {t} {m} {at} {r} e p = subst (λ (x : List ℕ). Put t at x r m) e p
 
+-- and there is room for it
+pub room-is : (at : ℕ) {x y : List ℕ} → x ≡ y → Room at x → Room at y
+room-is at e h = subst (Room at) e h
+
 -- ---- a byte string, from its byte i on
 
 module _ {t now : List ℕ} {at here : ℕ} (added : List ℕ) (i : ℕ) where
-  pub string-room : i < length added → Left t at added now here (drop i added) → at + length added < 2 ^ 64 → here + 1 < 2 ^ 64
+  pub string-room : i < length added → Left t at added now here (drop i added) → Room at added → here + 1 < 2 ^ 64
   string-room h l room = omega (arith, l .count, length-drop i added)
 
   pub string-turn : {m : List ℕ} {r : ℕ} → i < length added → Left t at added now here (drop i added) → Put now here (getD added i 0 ∷ []) r m → Left t at added m r (drop (i + 1) added)
@@ -52,7 +56,7 @@ hex-length (b ∷ bs) = omega (arith, hex-length bs)
 hex-count : (at : ℕ) (bs : List ℕ) (start end : ℕ) → end ≤ length bs → at + length (hex (slice start end bs)) ≡ at + 2 * (end - start)
 hex-count at bs start end k = omega (arith, hex-length (slice start end bs), length-slice start end bs k)
 
-pub hex-fits : (at : ℕ) (bs : List ℕ) (start end : ℕ) → end ≤ length bs → at + length (hex (slice start end bs)) < 2 ^ 64 → at + 2 * (end - start) < 2 ^ 64
+pub hex-fits : (at : ℕ) (bs : List ℕ) (start end : ℕ) → end ≤ length bs → Room at (hex (slice start end bs)) → at + 2 * (end - start) < 2 ^ 64
 hex-fits at bs start end k room = omega (arith, hex-count at bs start end k)
 
 -- past the slice's end they are counted alone
@@ -70,7 +74,7 @@ module _ {t whole now : List ℕ} {at here : ℕ} (bs : List ℕ) (i end : ℕ) 
   unfolding hex
   hex-more = ap hex (slice-cons i end bs 0 h k)
 
-  pub hex-room : at + length whole < 2 ^ 64 → here + 2 < 2 ^ 64
+  pub hex-room : Room at whole → here + 2 < 2 ^ 64
   hex-room room = omega (arith, l .count, ap length hex-more)
 
   pub hex-turn : {m : List ℕ} {r : ℕ} → Put now here (hexByte (getD bs i 0)) r m → Left t at whole m r (hex (slice (i + 1) end bs))
@@ -93,14 +97,14 @@ pub decimal-then : {t n m : List ℕ} {at r s : ℕ} (v : ℕ) → 10 ≤ v → 
 decimal-then v h p q = put-is (sym (decimal-more v h)) (join p q)
 
 -- room for them
-pub decimal-room-one : (at v : ℕ) → v < 10 → at + length (decimal v) < 2 ^ 64 → at + 1 < 2 ^ 64
+pub decimal-room-one : (at v : ℕ) → v < 10 → Room at (decimal v) → at + 1 < 2 ^ 64
 decimal-room-one at v h room = omega (arith, ap length (decimal-small v h))
 
-pub decimal-room-first : (at v : ℕ) → 10 ≤ v → at + length (decimal v) < 2 ^ 64 → at + length (decimal (v / 10)) < 2 ^ 64
-decimal-room-first at v h room = room-first at (decimal (v / 10)) (digit (v % 10) ∷ []) (subst (λ (x : List ℕ). at + length x < 2 ^ 64) (decimal-more v h) room)
+pub decimal-room-first : (at v : ℕ) → 10 ≤ v → Room at (decimal v) → Room at (decimal (v / 10))
+decimal-room-first at v h room = room-first at (decimal (v / 10)) (digit (v % 10) ∷ []) (room-is at (decimal-more v h) room)
 
-pub decimal-room-last : {t m : List ℕ} {at r : ℕ} (v : ℕ) → 10 ≤ v → Put t at (decimal (v / 10)) r m → at + length (decimal v) < 2 ^ 64 → r + 1 < 2 ^ 64
-decimal-room-last {at = at} v h p room = room-next (digit (v % 10) ∷ []) p (subst (λ (x : List ℕ). at + length x < 2 ^ 64) (decimal-more v h) room)
+pub decimal-room-last : {t m : List ℕ} {at r : ℕ} (v : ℕ) → 10 ≤ v → Put t at (decimal (v / 10)) r m → Room at (decimal v) → r + 1 < 2 ^ 64
+decimal-room-last {at = at} v h p room = room-next (digit (v % 10) ∷ []) p (room-is at (decimal-more v h) room) .fits
 
 -- ---- a data line, where n is the count as the code has it
 
@@ -110,9 +114,9 @@ module _ (bs : List ℕ) (n : ℕ) (counted : length bs ≡ n) where
   unfolding dataLine
   data-is = ap (λ (k : ℕ). asBytes "  data 0x" ++ hex bs ++ asBytes " (" ++ decimal k ++ asBytes " bytes)\n") (sym counted)
 
-  pub data-room : (at : ℕ) → at + length (dataLine bs) < 2 ^ 64 → at + (9 + length (hex bs) + 2 + length (decimal n) + 8) < 2 ^ 64
+  pub data-room : (at : ℕ) → Room at (dataLine bs) → at + (9 + length (hex bs) + 2 + length (decimal n) + 8) < 2 ^ 64
   unfolding asBytes
-  data-room at room = omega (arith, simp length-append at (subst (λ (x : List ℕ). at + length x < 2 ^ 64) (sym data-is) room))
+  data-room at room = omega (arith, simp length-append at (room-is at (sym data-is) room .fits))
 
   pub data-put : {t m : List ℕ} {at r : ℕ} → Put t at (asBytes "  data 0x" ++ hex bs ++ asBytes " (" ++ decimal n ++ asBytes " bytes)\n") r m → Put t at (dataLine bs) r m
   data-put p = put-is data-is p
@@ -128,7 +132,7 @@ take-slice bs n s e h k =
 
 module _ (bs : List ℕ) (n s e : ℕ) (some : 0 < n) (ordered : s ≤ e) (within : e ≤ length bs) where
   -- cut: the run has fewer
-  pub immediate-cut : e - s < n → asBytes " 0x" ++ hex (slice s e bs) ++ asBytes " (truncated)" ≡ immediateText n (take n (slice s e bs))
+  pub immediate-cut : e - s < n → asBytes " 0x" ++ hex (slice s e bs) ++ asBytes " (truncated)" ≡ immediateAt bs n s e
   unfolding immediateText cutText
   immediate-cut h =
       let l : length (slice s e bs) ≡ e - s = length-slice s e bs within in
@@ -138,7 +142,7 @@ module _ (bs : List ℕ) (n s e : ℕ) (some : 0 < n) (ordered : s ≤ e) (withi
       rw (a, z, l, t)
 
   -- whole
-  pub immediate-whole : n ≤ e - s → asBytes " 0x" ++ hex (slice s (s + n) bs) ≡ immediateText n (take n (slice s e bs))
+  pub immediate-whole : n ≤ e - s → asBytes " 0x" ++ hex (slice s (s + n) bs) ≡ immediateAt bs n s e
   unfolding immediateText cutText
   immediate-whole h =
       let l : length (slice s (s + n) bs) ≡ n = length-slice s (s + n) bs (omega arith) ∙ omega arith in
@@ -148,15 +152,15 @@ module _ (bs : List ℕ) (n s e : ℕ) (some : 0 < n) (ordered : s ≤ e) (withi
       rw (a, z, l, t, append-nil)
 
   -- the room that they take
-  pub immediate-cut-room : (at : ℕ) → at + length (immediateText n (take n (slice s e bs))) < 2 ^ 64 → e - s < n → at + (3 + length (hex (slice s e bs)) + 12) < 2 ^ 64
+  pub immediate-cut-room : (at : ℕ) → Room at (immediateAt bs n s e) → e - s < n → at + (3 + length (hex (slice s e bs)) + 12) < 2 ^ 64
   unfolding asBytes
   immediate-cut-room at room h = omega (arith, simp length-append at (ap length (immediate-cut h)))
 
-  pub immediate-whole-room : (at : ℕ) → at + length (immediateText n (take n (slice s e bs))) < 2 ^ 64 → n ≤ e - s → at + (3 + length (hex (slice s (s + n) bs))) < 2 ^ 64
+  pub immediate-whole-room : (at : ℕ) → Room at (immediateAt bs n s e) → n ≤ e - s → at + (3 + length (hex (slice s (s + n) bs))) < 2 ^ 64
   unfolding asBytes
   immediate-whole-room at room h = omega (arith, simp length-append at (ap length (immediate-whole h)))
 
-  pub immediate-room : (at : ℕ) → at + length (immediateText n (take n (slice s e bs))) < 2 ^ 64 → at + 3 < 2 ^ 64
+  pub immediate-room : (at : ℕ) → Room at (immediateAt bs n s e) → at + 3 < 2 ^ 64
   immediate-room at room = go (ltb (e - s) n) refl
     where
       go : (b : Bool) → ltb (e - s) n ≡ b → at + 3 < 2 ^ 64
@@ -194,8 +198,8 @@ pub ops-turn : {t whole now m : List ℕ} {at here r : ℕ} (bs : List ℕ) (i e
 ops-turn bs i end n h k e l p =
     rw e (left-step (opsLines (slice (i + instructionLength (getD bs i 0)) end bs)) (left-is (ops-more bs i end h k) l) p)
 
-pub ops-room : {t whole now : List ℕ} {at here : ℕ} (bs : List ℕ) (i end : ℕ) → i < end → end ≤ length bs → Left t at whole now here (opsLines (slice i end bs)) → at + length whole < 2 ^ 64
-    → here + length (instructionLine (placedAt bs i end)) < 2 ^ 64
+pub ops-room : {t whole now : List ℕ} {at here : ℕ} (bs : List ℕ) (i end : ℕ) → i < end → end ≤ length bs → Left t at whole now here (opsLines (slice i end bs)) → Room at whole
+    → Room here (instructionLine (placedAt bs i end))
 ops-room {here = here} bs i end h k l room =
     room-first here (instructionLine (placedAt bs i end)) (opsLines (slice (i + instructionLength (getD bs i 0)) end bs))
     (left-room (left-is (ops-more bs i end h k) l) room)

@@ -5,7 +5,8 @@ use mathlib.Core.Bool.{cond}
 use mathlib.Core.List.{List, _++_}
 use lib.ListN.{length, drop}
 use lib.Dec.{ltb}
-use Rattle.units.specs.Replies.{damaged, listingFull, refusalNumbers}
+use Rattle.units.specs.Replies.{damaged, listingFull}
+use Rattle.units.specs.Reply.{Reply, accepted, refused, refusalReply}
 use Rattle.records.specs.Store.{Store}
 use Rattle.records.specs.Damage.{wholeSoundness}
 use Rattle.records.specs.Sections.{decode}
@@ -15,21 +16,15 @@ use Rattle.listing.specs.Listing.{listing}
 use Rattle.listing.specs.declared.Listed.{Listed}
 use Rattle.listing.specs.declared.Listed.the-variants.{Text, Refused}
 
-pub data ListingReply : Type 0 where
-  -- accepted: the text's length
-  listed : ℕ → ListingReply
-  -- number, section, passes made
-  refused : ℕ → ℕ → ℕ → ListingReply
-
--- what each answer of the code stands for
-abbrev pub listedReply : Listed → ListingReply
-listedReply (Text n) = listed n
-listedReply (Refused r) = refused (refusalNumbers r .number) (refusalNumbers r .section) (refusalNumbers r .passes)
+-- what each answer of the code stands for: the text's length, or a refusal
+abbrev pub listedReply : Listed → Reply ℕ
+listedReply (Text n) = accepted n
+listedReply (Refused r) = refusalReply r
 
 -- the answer, from the whole test, the listing and the buffer
-abbrev pub replyFor : Soundness → List ℕ → List ℕ → ListingReply
+abbrev pub replyFor : Soundness → List ℕ → List ℕ → Reply ℕ
 replyFor (Damaged i) text buffer = refused damaged i 0
-replyFor Sound text buffer = cond (ltb (length buffer) (length text)) (refused listingFull 0 0) (listed (length text))
+replyFor Sound text buffer = cond (ltb (length buffer) (length text)) (refused listingFull 0 0) (accepted (length text))
 
 -- the buffer after the call: unchanged if refused, else the text and then what stood there
 abbrev pub bufferFor : Soundness → List ℕ → List ℕ → List ℕ
@@ -37,7 +32,7 @@ bufferFor (Damaged i) text buffer = buffer
 bufferFor Sound text buffer = cond (ltb (length buffer) (length text)) buffer (text ++ drop (length text) buffer)
 
 -- the reply of a listing call on a store whose sections have w words, with this buffer lent
-unfoldable pub listingReply : ℕ → Store → List ℕ → ListingReply
+unfoldable pub listingReply : ℕ → Store → List ℕ → Reply ℕ
 listingReply w st buffer = replyFor (wholeSoundness w st) (listing (decode w st)) buffer
 
 -- the buffer after it

@@ -13,11 +13,9 @@ use units::Refusal;
 ghost use mathlib.Core.Path.{_≡_};
 ghost use lib.ListN.{length};
 ghost use Rattle.records.specs.Store.{storeOf, wordsPerSection};
-ghost use Rattle.records.specs.Damage.{wholeSoundness};
-ghost use Rattle.records.specs.Sections.{decode};
-ghost use Rattle.records.specs.declared.damage.Soundness.the-variants.{Sound};
-ghost use Rattle.listing.specs.Listing.{listing};
-ghost use Rattle.listing.specs.Answer.{listedReply, replyFor, bufferFor, listingReply, listingBuffer};
+ghost use Rattle.undamaged.specs.View.{Undamaged};
+ghost use Rattle.listing.specs.Answer.{listedReply, listingReply, listingBuffer};
+ghost use Rattle.listing.specs.Put.{storeText};
 
 // The answer to a listing call: the text's length, or a refusal.
 pub enum Listed {
@@ -28,8 +26,12 @@ pub enum Listed {
 // Writes the listing to the text's start. Refusals: 6 damaged, 14 listing full. Refused, the text is as it was; else so are the bytes
 // after the listing.
 pub fn write_asm(store: Assembler, bytes: &[u8], words: &[u32], text: &mut [u8]) -> Listed
-    ensures answer { λ r. ⌜ listedReply r ≡ listingReply wordsPerSection (storeOf store (now (bytes .entry)) (now (words .entry))) (now (text .entry)) ⌝ }
-    ensures written { λ _. ⌜ now (text .exit) ≡ listingBuffer wordsPerSection (storeOf store (now (bytes .entry)) (now (words .entry))) (now (text .entry)) ⌝ }
+    ensures answer { λ r.
+        ⌜ listedReply r
+        ≡ listingReply wordsPerSection (storeOf store (now (bytes .entry)) (now (words .entry))) (now (text .entry)) ⌝ }
+    ensures written { λ _.
+        ⌜ now (text .exit)
+        ≡ listingBuffer wordsPerSection (storeOf store (now (bytes .entry)) (now (words .entry))) (now (text .entry)) ⌝ }
 {
     let soundness = check_store(store, bytes, words);
     match soundness {
@@ -40,9 +42,13 @@ pub fn write_asm(store: Assembler, bytes: &[u8], words: &[u32], text: &mut [u8])
 
 // The listing of an undamaged store: its length is known before the first byte is written.
 fn write_sound(store: Assembler, bytes: &[u8], words: &[u32], text: &mut [u8]) -> Listed
-    requires { ⌜ wholeSoundness wordsPerSection (storeOf store (now bytes) (now words)) ≡ Sound ⌝ }
-    ensures { λ r. ⌜ listedReply r ≡ replyFor Sound (listing (decode wordsPerSection (storeOf store (now (bytes .entry)) (now (words .entry))))) (now (text .entry)) ⌝ }
-    ensures { λ _. ⌜ now (text .exit) ≡ bufferFor Sound (listing (decode wordsPerSection (storeOf store (now (bytes .entry)) (now (words .entry))))) (now (text .entry)) ⌝ }
+    requires { ⌜ Undamaged wordsPerSection (storeOf store (now bytes) (now words)) ⌝ }
+    ensures { λ r.
+        ⌜ listedReply r
+        ≡ listingReply wordsPerSection (storeOf store (now (bytes .entry)) (now (words .entry))) (now (text .entry)) ⌝ }
+    ensures { λ _.
+        ⌜ now (text .exit)
+        ≡ listingBuffer wordsPerSection (storeOf store (now (bytes .entry)) (now (words .entry))) (now (text .entry)) ⌝ }
 {
     let length = listing_length(store, bytes, words);
     if text.len() < length {
@@ -54,8 +60,8 @@ fn write_sound(store: Assembler, bytes: &[u8], words: &[u32], text: &mut [u8]) -
 
 // The listing's length: the same walk, on a slice that has no room.
 fn listing_length(store: Assembler, bytes: &[u8], words: &[u32]) -> usize
-    requires { ⌜ wholeSoundness wordsPerSection (storeOf store (now bytes) (now words)) ≡ Sound ⌝ }
-    ensures { λ r. ⌜ r ≡ length (listing (decode wordsPerSection (storeOf store (now (bytes .entry)) (now (words .entry))))) ⌝ }
+    requires { ⌜ Undamaged wordsPerSection (storeOf store (now bytes) (now words)) ⌝ }
+    ensures { λ r. ⌜ r ≡ length (storeText wordsPerSection (storeOf store (now (bytes .entry)) (now (words .entry)))) ⌝ }
 {
     let mut none = [0u8; 0];
     write_store(&mut none, store.bytes, store.sections, bytes, words)

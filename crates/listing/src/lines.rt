@@ -8,15 +8,15 @@ use units::MarkId;
 use units::MarkReference;
 use units::MarkSpan;
 use units::SetSize;
-ghost use Prim.Native.Nat.{_+_, _<_, _^_};
 ghost use lib.ListN.{length};
-ghost use lib.Seq.{slice};
-ghost use Rattle.listing.specs.Put.{Put, SpanIn};
-ghost use Rattle.listing.specs.Listing.{markName, markLine, dataLine, pushText, deltaText, marksText, sizeText, referenceLine};
+ghost use Rattle.undamaged.specs.Section.{spanBytes, SpanIn};
+ghost use Rattle.listing.specs.Put.{Put, Room};
+ghost use Rattle.listing.specs.Listing.{markName, markLine, dataLine};
+ghost use Rattle.listing.specs.Listing.{pushText, deltaText, marksText, sizeText, referenceLine};
 
 // `.mark7`
 fn put_mark_name(text: &mut [u8], at: usize, mark: MarkId) -> usize
-    requires { ⌜ at + length (markName (mark .0)) < 2 ^ 64 ⌝ }
+    requires { ⌜ Room at (markName (mark .0)) ⌝ }
     ensures { λ r. ⌜ Put (now (text .entry)) at (markName (mark .0)) r (now (text .exit)) ⌝ }
 {
     let named = put(text, at, b".mark");
@@ -25,7 +25,7 @@ fn put_mark_name(text: &mut [u8], at: usize, mark: MarkId) -> usize
 
 // `.mark7:`
 pub(crate) fn put_mark_line(text: &mut [u8], at: usize, mark: MarkId) -> usize
-    requires { ⌜ at + length (markLine (mark .0)) < 2 ^ 64 ⌝ }
+    requires { ⌜ Room at (markLine (mark .0)) ⌝ }
     ensures { λ r. ⌜ Put (now (text .entry)) at (markLine (mark .0)) r (now (text .exit)) ⌝ }
 {
     let named = put_mark_name(text, at, mark);
@@ -34,8 +34,8 @@ pub(crate) fn put_mark_line(text: &mut [u8], at: usize, mark: MarkId) -> usize
 
 // `  data 0xaabb (2 bytes)`
 pub(crate) fn put_data_line(text: &mut [u8], at: usize, bytes: &[u8], span: BytesSpan) -> usize
-    requires { ⌜ SpanIn (length (now bytes)) span × (at + length (dataLine (slice (span .start .0) (span .end .0) (now bytes))) < 2 ^ 64) ⌝ }
-    ensures { λ r. ⌜ Put (now (text .entry)) at (dataLine (slice (span .start .0) (span .end .0) (now (bytes .entry)))) r (now (text .exit)) ⌝ }
+    requires { ⌜ SpanIn (length (now bytes)) span × Room at (dataLine (spanBytes (now bytes) span)) ⌝ }
+    ensures { λ r. ⌜ Put (now (text .entry)) at (dataLine (spanBytes (now (bytes .entry)) span)) r (now (text .exit)) ⌝ }
 {
     let start = span.start.0;
     let end = span.end.0;
@@ -48,7 +48,7 @@ pub(crate) fn put_data_line(text: &mut [u8], at: usize, bytes: &[u8], span: Byte
 
 // `  PUSH ` or `  RAW `
 fn put_pushed(text: &mut [u8], at: usize, pushed: bool) -> usize
-    requires { ⌜ at + length (pushText pushed) < 2 ^ 64 ⌝ }
+    requires { ⌜ Room at (pushText pushed) ⌝ }
     ensures { λ r. ⌜ Put (now (text .entry)) at (pushText pushed) r (now (text .exit)) ⌝ }
 {
     if pushed {
@@ -60,7 +60,7 @@ fn put_pushed(text: &mut [u8], at: usize, pushed: bool) -> usize
 
 // `(.mark1 - .mark0)`, the end first
 fn put_delta(text: &mut [u8], at: usize, span: MarkSpan) -> usize
-    requires { ⌜ at + length (deltaText span) < 2 ^ 64 ⌝ }
+    requires { ⌜ Room at (deltaText span) ⌝ }
     ensures { λ r. ⌜ Put (now (text .entry)) at (deltaText span) r (now (text .exit)) ⌝ }
 {
     let opened = put(text, at, b"(");
@@ -72,7 +72,7 @@ fn put_delta(text: &mut [u8], at: usize, span: MarkSpan) -> usize
 
 // `.mark7` or `(.mark1 - .mark0)`
 fn put_marks(text: &mut [u8], at: usize, mark_ref: MarkReference) -> usize
-    requires { ⌜ at + length (marksText «mark_ref») < 2 ^ 64 ⌝ }
+    requires { ⌜ Room at (marksText «mark_ref») ⌝ }
     ensures { λ r. ⌜ Put (now (text .entry)) at (marksText «mark_ref») r (now (text .exit)) ⌝ }
 {
     match mark_ref {
@@ -83,7 +83,7 @@ fn put_marks(text: &mut [u8], at: usize, mark_ref: MarkReference) -> usize
 
 // `:2`, or nothing if unsized
 fn put_size(text: &mut [u8], at: usize, set_size: SetSize) -> usize
-    requires { ⌜ at + length (sizeText «set_size») < 2 ^ 64 ⌝ }
+    requires { ⌜ Room at (sizeText «set_size») ⌝ }
     ensures { λ r. ⌜ Put (now (text .entry)) at (sizeText «set_size») r (now (text .exit)) ⌝ }
 {
     let SetSize::Sized(size) = set_size else {
@@ -95,7 +95,7 @@ fn put_size(text: &mut [u8], at: usize, set_size: SetSize) -> usize
 
 // `  PUSH .mark1` or `  RAW (.mark1 - .mark0):2`
 pub(crate) fn put_reference_line(text: &mut [u8], at: usize, reference: AsmReference) -> usize
-    requires { ⌜ at + length (referenceLine reference) < 2 ^ 64 ⌝ }
+    requires { ⌜ Room at (referenceLine reference) ⌝ }
     ensures { λ r. ⌜ Put (now (text .entry)) at (referenceLine reference) r (now (text .exit)) ⌝ }
 {
     let mark_ref = reference.mark_ref;

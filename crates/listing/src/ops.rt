@@ -4,17 +4,17 @@ use crate::text::put_hex;
 use evm::op;
 use evm::op::PushSize;
 use units::BytesSpan;
-ghost use Prim.Native.Nat.{_+_, _≤_, _<_, _^_};
-ghost use lib.ListN.{length, getD, take};
-ghost use lib.Seq.{slice};
+ghost use Prim.Native.Nat.{_≤_, _<_};
+ghost use lib.ListN.{length};
 ghost use Rattle.evm.specs.YellowPaper.{pushSize};
 ghost use Rattle.opcodes.specs.Names.{opName};
-ghost use Rattle.listing.specs.Put.{Put, SpanIn, placedAt};
-ghost use Rattle.listing.specs.Listing.{immediateText, instructionLine, opsLines};
+ghost use Rattle.undamaged.specs.Section.{spanBytes, SpanIn};
+ghost use Rattle.listing.specs.Put.{Put, Room, immediateAt, placedAt};
+ghost use Rattle.listing.specs.Listing.{instructionLine, opsLines};
 
 // The name of an opcode.
 fn put_name(text: &mut [u8], at: usize, opcode: u8) -> usize
-    requires { ⌜ at + length (opName opcode) < 2 ^ 64 ⌝ }
+    requires { ⌜ Room at (opName opcode) ⌝ }
     ensures { λ r. ⌜ Put (now (text .entry)) at (opName opcode) r (now (text .exit)) ⌝ }
 {
     let name = opcodes::name(opcode);
@@ -32,8 +32,8 @@ fn put_immediate(
     start: usize,
     end: usize,
 ) -> usize
-    requires { ⌜ (0 < size) × (start ≤ end) × (end ≤ length (now bytes)) × (at + length (immediateText size (take size (slice start end (now bytes)))) < 2 ^ 64) ⌝ }
-    ensures { λ r. ⌜ Put (now (text .entry)) at (immediateText size (take size (slice start end (now (bytes .entry))))) r (now (text .exit)) ⌝ }
+    requires { ⌜ (0 < size) × (start ≤ end) × (end ≤ length (now bytes)) × Room at (immediateAt (now bytes) size start end) ⌝ }
+    ensures { λ r. ⌜ Put (now (text .entry)) at (immediateAt (now (bytes .entry)) size start end) r (now (text .exit)) ⌝ }
 {
     let opened = put(text, at, b" 0x");
     if end - start < size {
@@ -52,8 +52,8 @@ fn put_operand(
     start: usize,
     end: usize,
 ) -> usize
-    requires { ⌜ (start ≤ end) × (end ≤ length (now bytes)) × (at + length (immediateText (pushSize opcode) (take (pushSize opcode) (slice start end (now bytes)))) < 2 ^ 64) ⌝ }
-    ensures { λ r. ⌜ Put (now (text .entry)) at (immediateText (pushSize opcode) (take (pushSize opcode) (slice start end (now (bytes .entry))))) r (now (text .exit)) ⌝ }
+    requires { ⌜ (start ≤ end) × (end ≤ length (now bytes)) × Room at (immediateAt (now bytes) (pushSize opcode) start end) ⌝ }
+    ensures { λ r. ⌜ Put (now (text .entry)) at (immediateAt (now (bytes .entry)) (pushSize opcode) start end) r (now (text .exit)) ⌝ }
 {
     let push_size = op::push_size(opcode);
     let PushSize::Bytes(size) = push_size else {
@@ -64,7 +64,7 @@ fn put_operand(
 
 // `  JUMPDEST`, `  PUSH2 0x0102`, `  PUSH2 0x01 (truncated)`: the instruction at i, of a section that ends at end.
 fn put_instruction(text: &mut [u8], at: usize, bytes: &[u8], i: usize, end: usize) -> usize
-    requires { ⌜ (i < end) × (end ≤ length (now bytes)) × (at + length (instructionLine (placedAt (now bytes) i end)) < 2 ^ 64) ⌝ }
+    requires { ⌜ (i < end) × (end ≤ length (now bytes)) × Room at (instructionLine (placedAt (now bytes) i end)) ⌝ }
     ensures { λ r. ⌜ Put (now (text .entry)) at (instructionLine (placedAt (now (bytes .entry)) i end)) r (now (text .exit)) ⌝ }
 {
     let opcode = bytes[i];
@@ -76,8 +76,8 @@ fn put_instruction(text: &mut [u8], at: usize, bytes: &[u8], i: usize, end: usiz
 
 // A line for each instruction of an Ops section.
 pub(crate) fn put_ops_lines(text: &mut [u8], at: usize, bytes: &[u8], span: BytesSpan) -> usize
-    requires { ⌜ SpanIn (length (now bytes)) span × (at + length (opsLines (slice (span .start .0) (span .end .0) (now bytes))) < 2 ^ 64) ⌝ }
-    ensures { λ r. ⌜ Put (now (text .entry)) at (opsLines (slice (span .start .0) (span .end .0) (now (bytes .entry)))) r (now (text .exit)) ⌝ }
+    requires { ⌜ SpanIn (length (now bytes)) span × Room at (opsLines (spanBytes (now bytes) span)) ⌝ }
+    ensures { λ r. ⌜ Put (now (text .entry)) at (opsLines (spanBytes (now (bytes .entry)) span)) r (now (text .exit)) ⌝ }
 {
     let end = span.end.0 as usize;
     let mut here = at;

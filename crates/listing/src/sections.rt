@@ -1,4 +1,4 @@
-// The sections of an undamaged store, their lines put into a slice from its start on.
+// The sections of an undamaged store, their lines put into a slice from a place on.
 use crate::lines::put_data_line;
 use crate::lines::put_mark_line;
 use crate::lines::put_reference_line;
@@ -7,33 +7,20 @@ use records::AsmSection;
 use records::Assembler;
 use records::SectionRead;
 use records::StoredSection;
+use records::kind;
 use records::read_section;
 use units::AsmBytesIdx;
 use units::BytesSpan;
 use units::MarkId;
 ghost use mathlib.Core.Path.{_≡_};
-ghost use Prim.Native.Nat.{_+_, _*_, _≤_, _<_, _^_};
+ghost use Prim.Native.Nat.{_+_, _*_, _≤_};
 ghost use lib.ListN.{length};
-ghost use Rattle.records.specs.Record.{readSection};
+ghost use Rattle.records.specs.Record.{readSection, directKind};
 ghost use Rattle.records.specs.Store.{storeOf, wordsPerSection, wordsAt};
-ghost use Rattle.records.specs.Sections.{sectionOf, sectionRead, decode};
-ghost use Rattle.listing.specs.Put.{Put, SectionIn, ReadIn, Listable};
-ghost use Rattle.listing.specs.Listing.{sectionText, listing};
+ghost use Rattle.undamaged.specs.Section.{ReadIn};
+ghost use Rattle.listing.specs.Put.{Put, Room, wordsText, storeText, Listable};
 
-// The lines of one section.
-fn put_section(text: &mut [u8], at: usize, bytes: &[u8], section: AsmSection) -> usize
-    requires { ⌜ SectionIn (length (now bytes)) section × (at + length (sectionText (sectionOf (now bytes) section)) < 2 ^ 64) ⌝ }
-    ensures { λ r. ⌜ Put (now (text .entry)) at (sectionText (sectionOf (now (bytes .entry)) section)) r (now (text .exit)) ⌝ }
-{
-    match section {
-        AsmSection::Mark(mark) => put_mark_line(text, at, mark),
-        AsmSection::Ops(span) => put_ops_lines(text, at, bytes, span),
-        AsmSection::Data(span) => put_data_line(text, at, bytes, span),
-        AsmSection::MarkRef(reference) => put_reference_line(text, at, reference),
-    }
-}
-
-// The three words of section i.
+// The three words of section i. A copy of the reader in `records` and not a call: a public one would test the index at each section.
 fn section_words(words: &[u32], i: usize) -> StoredSection
     requires { ⌜ wordsPerSection * (i + 1) ≤ length (now words) ⌝ }
     ensures { λ r. ⌜ r ≡ wordsAt wordsPerSection (now (words .entry)) i ⌝ }
@@ -48,28 +35,30 @@ fn section_words(words: &[u32], i: usize) -> StoredSection
 
 // The lines of one section, from its words. Of a mark, Ops and Data nothing is read but the words.
 fn put_words(text: &mut [u8], at: usize, bytes: &[u8], section: StoredSection) -> usize
-    requires { ⌜ ReadIn (length (now bytes)) (readSection section) × (at + length (sectionText (sectionRead (now bytes) (readSection section))) < 2 ^ 64) ⌝ }
-    ensures { λ r. ⌜ Put (now (text .entry)) at (sectionText (sectionRead (now (bytes .entry)) (readSection section))) r (now (text .exit)) ⌝ }
+    requires { ⌜ ReadIn (length (now bytes)) (readSection section) × Room at (wordsText (now bytes) section) ⌝ }
+    ensures { λ r. ⌜ Put (now (text .entry)) at (wordsText (now (bytes .entry)) section) r (now (text .exit)) ⌝ }
 {
-    let kind = section.kind;
     let span = BytesSpan {
         start: AsmBytesIdx(section.first),
         end: AsmBytesIdx(section.second),
     };
-    if kind == 0 {
+    if section.kind == kind::MARK {
         return put_mark_line(text, at, MarkId(section.first));
     }
-    if kind == 1 {
+    if section.kind == kind::OPS {
         return put_ops_lines(text, at, bytes, span);
     }
-    if kind == 2 {
+    if section.kind == kind::DATA {
         return put_data_line(text, at, bytes, span);
     }
     let read = read_section(section);
     let SectionRead::Read(section) = read else {
         return at;
     };
-    put_section(text, at, bytes, section)
+    let AsmSection::MarkRef(reference) = section else {
+        return at;
+    };
+    put_reference_line(text, at, reference)
 }
 
 // The lines of every section.
@@ -81,7 +70,9 @@ pub(crate) fn put_sections(
     words: &[u32],
 ) -> usize
     requires { ⌜ Listable wordsPerSection (storeOf store (now bytes) (now words)) at ⌝ }
-    ensures { λ r. ⌜ Put (now (text .entry)) at (listing (decode wordsPerSection (storeOf store (now (bytes .entry)) (now (words .entry))))) r (now (text .exit)) ⌝ }
+    ensures { λ r.
+        ⌜ Put (now (text .entry)) at
+        (storeText wordsPerSection (storeOf store (now (bytes .entry)) (now (words .entry)))) r (now (text .exit)) ⌝ }
 {
     let mut here = at;
     let mut i: u32 = 0;

@@ -32,7 +32,9 @@ fn put_store(
     words: &[u32],
 ) -> usize
     requires { ⌜ Listable wordsPerSection (storeWith stored sections (now bytes) (now words)) at ⌝ }
-    ensures { λ r. ⌜ Put (now (text .entry)) at (storeText wordsPerSection (storeWith stored sections (now (bytes .entry)) (now (words .entry)))) r (now (text .exit)) ⌝ }
+    ensures { λ r.
+        ⌜ Put (now (text .entry)) at
+        (storeText wordsPerSection (storeWith stored sections (now (bytes .entry)) (now (words .entry)))) r (now (text .exit)) ⌝ }
 {
     let store = Assembler {
         bytes: stored,
@@ -50,7 +52,9 @@ fn add_store<'a, 'b, 'c>(
     words: &'c [u32],
 ) -> usize
     requires { ⌜ Listable wordsPerSection (storeWith stored sections (now bytes) (now words)) (sink .count) ⌝ }
-    ensures { λ r. ⌜ Put (now (sink .entry .text)) (sink .entry .count) (storeText wordsPerSection (storeWith stored sections (now (bytes .entry)) (now (words .entry)))) r (now (sink .exit .0)) ⌝ }
+    ensures { λ r.
+        ⌜ Put (now (sink .entry .text)) (sink .entry .count)
+        (storeText wordsPerSection (storeWith stored sections (now (bytes .entry)) (now (words .entry)))) r (now (sink .exit .0)) ⌝ }
 {
     let at = sink.count;
     put_store(&mut *sink.text, at, stored, sections, bytes, words)
@@ -65,7 +69,9 @@ pub(crate) fn write_store(
     words: &[u32],
 ) -> usize
     requires { ⌜ Listable wordsPerSection (storeWith stored sections (now bytes) (now words)) 0 ⌝ }
-    ensures { λ r. ⌜ Put (now (text .entry)) 0 (storeText wordsPerSection (storeWith stored sections (now (bytes .entry)) (now (words .entry)))) r (now (text .exit)) ⌝ }
+    ensures { λ r.
+        ⌜ Put (now (text .entry)) 0
+        (storeText wordsPerSection (storeWith stored sections (now (bytes .entry)) (now (words .entry)))) r (now (text .exit)) ⌝ }
 {
     let sink = new(text);
     add_store(sink, stored, sections, bytes, words)

@@ -5,7 +5,7 @@ ghost use mathlib.Core.List.{[], _∷_};
 ghost use Prim.Native.Nat.{_+_, _≤_, _<_, _^_};
 ghost use lib.ListN.{length};
 ghost use lib.Seq.{slice};
-ghost use Rattle.listing.specs.Put.{Put};
+ghost use Rattle.listing.specs.Put.{Put, Room};
 ghost use Rattle.listing.specs.Decimal.{decimal};
 ghost use Rattle.listing.specs.Listing.{hexDigit, hexByte, hex};
 
@@ -23,7 +23,7 @@ fn put_byte(text: &mut [u8], at: usize, byte: u8) -> usize
 
 // A byte string. Where no byte can be stored it is counted at once: a listing's length is found by the same walk, on an empty slice.
 pub(crate) fn put(text: &mut [u8], at: usize, added: &[u8]) -> usize
-    requires { ⌜ at + length (now added) < 2 ^ 64 ⌝ }
+    requires { ⌜ Room at (now added) ⌝ }
     ensures { λ r. ⌜ Put (now (text .entry)) at (now (added .entry)) r (now (text .exit)) ⌝ }
 {
     if text.len() <= at {
@@ -60,7 +60,7 @@ fn put_hex_byte(text: &mut [u8], at: usize, byte: u8) -> usize
 
 // The bytes from start to end, in hex; counted at once, as `put` does, where none can be stored.
 pub(crate) fn put_hex(text: &mut [u8], at: usize, bytes: &[u8], start: usize, end: usize) -> usize
-    requires { ⌜ (start ≤ end) × (end ≤ length (now bytes)) × (at + length (hex (slice start end (now bytes))) < 2 ^ 64) ⌝ }
+    requires { ⌜ (start ≤ end) × (end ≤ length (now bytes)) × Room at (hex (slice start end (now bytes))) ⌝ }
     ensures { λ r. ⌜ Put (now (text .entry)) at (hex (slice start end (now (bytes .entry)))) r (now (text .exit)) ⌝ }
 {
     if text.len() <= at {
@@ -77,7 +77,7 @@ pub(crate) fn put_hex(text: &mut [u8], at: usize, bytes: &[u8], start: usize, en
 
 // A number in decimal.
 pub(crate) fn put_decimal(text: &mut [u8], at: usize, value: u32) -> usize
-    requires { ⌜ at + length (decimal value) < 2 ^ 64 ⌝ }
+    requires { ⌜ Room at (decimal value) ⌝ }
     ensures { λ r. ⌜ Put (now (text .entry)) at (decimal value) r (now (text .exit)) ⌝ }
 {
     if value < 10 {

@@ -105,6 +105,42 @@ reads r =
     (λ u. let w : k < 14 = ltb-true k 14 u in reads-delta k a b (k - rawDeltaKind) false four (omega arith) (omega arith))
     (λ _. is-damaged))))))
 
+-- ---- a readable section, by its kind word
+
+module _ {k a b : ℕ} where
+  pub mark-read : {v : SectionRead} → Reads k a b v → unreadable v ≡ false → k ≡ markKind → v ≡ Read (Mark (record { 0 = a }))
+  mark-read is-damaged u e = absurd (true≢false u)
+  mark-read (is-mark f m) u e = refl
+  mark-read (is-ops f l) u e = absurd (omega arith)
+  mark-read (is-data f l) u e = absurd (omega arith)
+  mark-read (is-direct f m s p g) u e = absurd (omega arith)
+  mark-read (is-delta l m n s p g) u e = absurd (omega arith)
+
+  pub ops-read : {v : SectionRead} → Reads k a b v → unreadable v ≡ false → k ≡ opsKind → v ≡ Read (Ops (span a b))
+  ops-read is-damaged u e = absurd (true≢false u)
+  ops-read (is-mark f m) u e = absurd (omega arith)
+  ops-read (is-ops f l) u e = refl
+  ops-read (is-data f l) u e = absurd (omega arith)
+  ops-read (is-direct f m s p g) u e = absurd (omega arith)
+  ops-read (is-delta l m n s p g) u e = absurd (omega arith)
+
+  pub data-read : {v : SectionRead} → Reads k a b v → unreadable v ≡ false → k ≡ dataKind → v ≡ Read (Data (span a b))
+  data-read is-damaged u e = absurd (true≢false u)
+  data-read (is-mark f m) u e = absurd (omega arith)
+  data-read (is-ops f l) u e = absurd (omega arith)
+  data-read (is-data f l) u e = refl
+  data-read (is-direct f m s p g) u e = absurd (omega arith)
+  data-read (is-delta l m n s p g) u e = absurd (omega arith)
+
+  -- the other kinds are references
+  pub reference-read : {v : SectionRead} → Reads k a b v → unreadable v ≡ false → directKind ≤ k → (r : AsmReference) × (v ≡ Read (MarkRef r))
+  reference-read is-damaged u l = absurd (true≢false u)
+  reference-read (is-mark f m) u l = absurd (omega arith)
+  reference-read (is-ops f o) u l = absurd (omega arith)
+  reference-read (is-data f o) u l = absurd (omega arith)
+  reference-read (is-direct f m s p g) u l = (_, refl)
+  reference-read (is-delta o m n s p g) u l = (_, refl)
+
 -- the kinds Ops and Data are below 3
 other-kind : (k : ℕ) → directKind ≤ k → isSpan k ≡ false
 other-kind k h = or-false _ _ .1 (ne-eqb k opsKind (λ e. omega arith), ne-eqb k dataKind (λ e. omega arith))

@@ -1,6 +1,8 @@
 -- What is known of one section of an undamaged store: its span lies within the stored bytes, and its marks are at most the largest.
 -- The functions that read only undamaged stores ask for it. Assumes nothing.
 use Prim.Native.Nat.{ℕ, _≤_}
+use mathlib.Core.List.{List}
+use lib.Seq.{slice}
 use Rattle.units.specs.declared.BytesSpan.{BytesSpan}
 use Rattle.units.specs.declared.MarkReference.{MarkReference}
 use Rattle.units.specs.declared.MarkReference.the-variants.{Direct, Delta}
@@ -9,6 +11,10 @@ use Rattle.records.specs.declared.record.AsmSection.{AsmSection}
 use Rattle.records.specs.declared.record.AsmSection.the-variants.{Mark, Ops, Data, MarkRef}
 use Rattle.records.specs.declared.record.SectionRead.{SectionRead}
 use Rattle.records.specs.declared.record.SectionRead.the-variants.{Read, Damaged}
+
+-- the bytes of a span
+abbrev pub spanBytes : List ℕ → BytesSpan → List ℕ
+spanBytes bs s = slice (s .start .0) (s .end .0) bs
 
 -- a span of the first n bytes
 abbrev pub SpanIn : ℕ → BytesSpan → Type 0

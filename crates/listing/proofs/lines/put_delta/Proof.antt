@@ -2,10 +2,10 @@
 -- Assumes nothing.
 use borrow.Author.Needs.{needs}
 use native.Mathlib.Omega.{arith}
-use lib.ListN.{length-append}
 use Rattle.opcodes.specs.Text.{asBytes}
 use Rattle.listing.specs.Listing.{deltaText}
 use Rattle.listing.proofs.Puts.{join}
+use Rattle.listing.proofs.Rooms.{room-delta}
 use Rattle.listing.proofs.lines.put_delta.Statement.{statement}
 use Rattle.listing.proofs.lines.put_delta.Tie as tie
 
@@ -13,37 +13,39 @@ slice-aggregate-put : tie.Need-slice-aggregate-put
 slice-aggregate-put c = search needs
 
 put-requires : tie.Need-put-requires
-unfolding deltaText asBytes
-put-requires c κs = omega (arith, simp length-append at (c .before .before .before .pre))
+put-requires c κs = omega (arith, room-delta)
 
 put-mark-name-requires : tie.Need-put-mark-name-requires
-unfolding deltaText asBytes
-put-mark-name-requires c κs = omega (arith, simp length-append at (c .before .before .before .before .before .before .before .pre))
+put-mark-name-requires c κs = omega (arith, room-delta)
 
 slice-aggregate-put-2 : tie.Need-slice-aggregate-put-2
 slice-aggregate-put-2 c = search needs
 
 put-requires-2 : tie.Need-put-requires-2
-unfolding deltaText asBytes
-put-requires-2 c κs = omega (arith, simp length-append at (c .before .before .before .before .before .before .before .before .before .before .before .before .pre))
+put-requires-2 c κs = omega (arith, room-delta)
 
 put-mark-name-requires-2 : tie.Need-put-mark-name-requires-2
-unfolding deltaText asBytes
-put-mark-name-requires-2 c κs = omega (arith, simp length-append at (c .before .before .before .before .before .before .before .before .before .before .before .before .before .before .before .before .pre))
+put-mark-name-requires-2 c κs = omega (arith, room-delta)
 
 slice-aggregate-put-3 : tie.Need-slice-aggregate-put-3
 slice-aggregate-put-3 c = search needs
 
 put-requires-3 : tie.Need-put-requires-3
-unfolding deltaText asBytes
-put-requires-3 c κs = omega (arith, simp length-append at (c .before .before .before .before .before .before .before .before .before .before .before .before .before .before .before .before .before .before .before .before .before .pre))
+put-requires-3 c κs = omega (arith, room-delta)
 
 same-length : tie.Need-same-length
 same-length c = search needs
 
 returns : tie.Need-returns
 unfolding deltaText asBytes
-returns c = join (join (join (join (c .before .before .before .before .before .before .before .before .before .before .before .before .before .before .before .before .before .before .before .before .put .ensures) (c .before .before .before .before .before .before .before .before .before .before .before .before .before .before .before .before .put-mark-name .ensures)) (c .before .before .before .before .before .before .before .before .before .before .before .put2 .ensures)) (c .before .before .before .before .before .before .before .put-mark-name2 .ensures)) (c .before .before .put3 .ensures)
+returns c =
+    let closed = c .before .before in
+    let started = closed .before .before .before .before .before in
+    let parted = started .before .before .before .before in
+    let ended = parted .before .before .before .before .before in
+    let opened = ended .before .before .before .before in
+    join (join (join (join (opened .put .ensures) (ended .put-mark-name .ensures)) (parted .put2 .ensures)) (started .put-mark-name2 .ensures))
+    (closed .put3 .ensures)
 
 pub put-delta-spec : {M : Type 1} → statement M
 put-delta-spec = tie.close (tie.spec slice-aggregate-put put-requires put-mark-name-requires slice-aggregate-put-2 put-requires-2 put-mark-name-requires-2 slice-aggregate-put-3 put-requires-3 same-length returns)

@@ -2,30 +2,31 @@
 -- Assumes nothing.
 use borrow.Author.Needs.{needs}
 use native.Mathlib.Omega.{arith}
-use lib.ListN.{length-append}
 use Rattle.opcodes.specs.Text.{asBytes}
 use Rattle.listing.specs.Listing.{markLine}
 use Rattle.listing.proofs.Puts.{join}
+use Rattle.listing.proofs.Rooms.{room-mark}
 use Rattle.listing.proofs.lines.put_mark_line.Statement.{statement}
 use Rattle.listing.proofs.lines.put_mark_line.Tie as tie
 
 put-mark-name-requires : tie.Need-put-mark-name-requires
-unfolding markLine asBytes
-put-mark-name-requires c κs = omega (arith, simp length-append at (c .before .before .pre))
+put-mark-name-requires c κs = omega (arith, room-mark)
 
 slice-aggregate-put : tie.Need-slice-aggregate-put
 slice-aggregate-put c = search needs
 
 put-requires : tie.Need-put-requires
-unfolding markLine asBytes
-put-requires c κs = omega (arith, simp length-append at (c .before .before .before .before .before .before .before .pre))
+put-requires c κs = omega (arith, room-mark)
 
 same-length : tie.Need-same-length
 same-length c = search needs
 
 returns : tie.Need-returns
 unfolding markLine asBytes
-returns c = join (c .before .before .before .before .before .before .before .put-mark-name .ensures) (c .before .before .put .ensures)
+returns c =
+    let ended = c .before .before in
+    let named = ended .before .before .before .before .before in
+    join (named .put-mark-name .ensures) (ended .put .ensures)
 
 pub put-mark-line-spec : {M : Type 1} → statement M
 put-mark-line-spec = tie.close (tie.spec put-mark-name-requires slice-aggregate-put put-requires same-length returns)

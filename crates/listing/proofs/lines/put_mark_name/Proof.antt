@@ -2,10 +2,10 @@
 -- Assumes nothing.
 use borrow.Author.Needs.{needs}
 use native.Mathlib.Omega.{arith}
-use lib.ListN.{length-append}
 use Rattle.opcodes.specs.Text.{asBytes}
 use Rattle.listing.specs.Listing.{markName}
 use Rattle.listing.proofs.Puts.{join}
+use Rattle.listing.proofs.Rooms.{room-name}
 use Rattle.listing.proofs.lines.put_mark_name.Statement.{statement}
 use Rattle.listing.proofs.lines.put_mark_name.Tie as tie
 
@@ -13,19 +13,20 @@ slice-aggregate-put : tie.Need-slice-aggregate-put
 slice-aggregate-put c = search needs
 
 put-requires : tie.Need-put-requires
-unfolding markName asBytes
-put-requires c κs = omega (arith, simp length-append at (c .before .before .before .pre))
+put-requires c κs = omega (arith, room-name)
 
 put-decimal-requires : tie.Need-put-decimal-requires
-unfolding markName asBytes
-put-decimal-requires c κs = omega (arith, simp length-append at (c .before .before .before .before .before .before .before .pre))
+put-decimal-requires c κs = omega (arith, room-name)
 
 same-length : tie.Need-same-length
 same-length c = search needs
 
 returns : tie.Need-returns
 unfolding markName asBytes
-returns c = join (c .before .before .before .before .before .before .put .ensures) (c .before .before .put-decimal .ensures)
+returns c =
+    let numbered = c .before .before in
+    let named = numbered .before .before .before .before in
+    join (named .put .ensures) (numbered .put-decimal .ensures)
 
 pub put-mark-name-spec : {M : Type 1} → statement M
 put-mark-name-spec = tie.close (tie.spec slice-aggregate-put put-requires put-decimal-requires same-length returns)

@@ -8,25 +8,35 @@ enum-known-mark-ref : tie.Need-enum-known-mark-ref
 enum-known-mark-ref c = search needs
 
 put-mark-name-requires : tie.Need-put-mark-name-requires
-put-mark-name-requires c κs = rw (c .before .before .mark-ref .given .1) at (c .before .before .before .before .before .pre)
+put-mark-name-requires c κs =
+    let one = c .before .before in
+    rw (one .mark-ref .given .1) at (one .before .before .before .pre)
 
 enum-known-mark-ref-2 : tie.Need-enum-known-mark-ref-2
 enum-known-mark-ref-2 c = search needs
 
 put-delta-requires : tie.Need-put-delta-requires
-put-delta-requires c κs = rw (c .before .before .mark-ref2 .given .1) at (c .before .before .before .before .before .pre)
+put-delta-requires c κs =
+    let two = c .before .before in
+    rw (two .mark-ref2 .given .1) at (two .before .before .before .pre)
 
 same-length : tie.Need-same-length
 same-length c = search needs
 
 returns : tie.Need-returns
-returns c = rw (c .before .before .before .before .before .mark-ref .given .1) (c .before .before .put-mark-name .ensures)
+returns c =
+    let put = c .before .before in
+    let one = put .before .before .before in
+    rw (one .mark-ref .given .1) (put .put-mark-name .ensures)
 
 same-length-2 : tie.Need-same-length-2
 same-length-2 c = search needs
 
 returns-2 : tie.Need-returns-2
-returns-2 c = rw (c .before .before .before .before .before .mark-ref2 .given .1) (c .before .before .put-delta .ensures)
+returns-2 c =
+    let put = c .before .before in
+    let two = put .before .before .before in
+    rw (two .mark-ref2 .given .1) (put .put-delta .ensures)
 
 pub put-marks-spec : {M : Type 1} → statement M
 put-marks-spec = tie.close (tie.spec enum-known-mark-ref put-mark-name-requires enum-known-mark-ref-2 put-delta-requires same-length returns same-length-2 returns-2)

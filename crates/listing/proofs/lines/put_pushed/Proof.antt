@@ -10,28 +10,38 @@ slice-aggregate-put c = search needs
 
 put-requires : tie.Need-put-requires
 unfolding asBytes
-put-requires c κs = rw (c .before .before .if1 .taken) at (c .before .before .before .before .pre)
+put-requires c κs =
+    let pushed = c .before .before in
+    rw (pushed .if1 .taken) at (pushed .before .before .pre)
 
 slice-aggregate-put-2 : tie.Need-slice-aggregate-put-2
 slice-aggregate-put-2 c = search needs
 
 put-requires-2 : tie.Need-put-requires-2
 unfolding asBytes
-put-requires-2 c κs = rw (c .before .before .if1 .left) at (c .before .before .before .before .pre)
+put-requires-2 c κs =
+    let raw = c .before .before in
+    rw (raw .if1 .left) at (raw .before .before .pre)
 
 same-length : tie.Need-same-length
 same-length c = search needs
 
 returns : tie.Need-returns
 unfolding asBytes
-returns c = rw (c .before .before .before .before .before .if1 .taken) (c .before .before .put .ensures)
+returns c =
+    let put = c .before .before in
+    let pushed = put .before .before .before in
+    rw (pushed .if1 .taken) (put .put .ensures)
 
 same-length-2 : tie.Need-same-length-2
 same-length-2 c = search needs
 
 returns-2 : tie.Need-returns-2
 unfolding asBytes
-returns-2 c = rw (c .before .before .before .before .before .if1 .left) (c .before .before .put2 .ensures)
+returns-2 c =
+    let put = c .before .before in
+    let raw = put .before .before .before in
+    rw (raw .if1 .left) (put .put2 .ensures)
 
 pub put-pushed-spec : {M : Type 1} → statement M
 put-pushed-spec = tie.close (tie.spec slice-aggregate-put put-requires slice-aggregate-put-2 put-requires-2 same-length returns same-length-2 returns-2)

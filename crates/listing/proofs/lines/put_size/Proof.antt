@@ -3,11 +3,11 @@
 use borrow.Author.Needs.{needs}
 use mathlib.Core.Path.{ap}
 use native.Mathlib.Omega.{arith}
-use lib.ListN.{length-append}
 use Rattle.opcodes.specs.Text.{asBytes}
 use Rattle.listing.specs.Decimal.{decimal}
 use Rattle.listing.proofs.Puts.{join, put-none}
 use Rattle.listing.proofs.Turns.{put-is}
+use Rattle.listing.proofs.Rooms.{room-size}
 use Rattle.listing.proofs.lines.put_size.Statement.{statement}
 use Rattle.listing.proofs.lines.put_size.Tie as tie
 
@@ -24,22 +24,32 @@ slice-aggregate-put : tie.Need-slice-aggregate-put
 slice-aggregate-put c = search needs
 
 put-requires : tie.Need-put-requires
-unfolding asBytes
-put-requires c κs = omega (arith, simp length-append at (rw (c .before .before .before .set-size .given .1) at (c .before .before .before .before .before .before .pre)))
+put-requires c κs =
+    let told = c .before .before .before in
+    let start = told .before .before .before in
+    omega (arith, room-size _ _ _ (told .set-size .given .1) (start .pre))
 
 bytes-requires : tie.Need-bytes-requires
 bytes-requires c κs = search needs
 
 put-decimal-requires : tie.Need-put-decimal-requires
-unfolding asBytes
-put-decimal-requires c κs = rw (c .bytes .ensures .0) (omega (arith, simp length-append at (rw (c .before .before .before .before .before .before .before .before .set-size .given .1) at (c .before .before .before .before .before .before .before .before .before .before .before .pre))))
+put-decimal-requires c κs =
+    let told = c .before .before .before .before .before .before .before .before in
+    let start = told .before .before .before in
+    rw (c .bytes .ensures .0) (omega (arith, room-size _ _ _ (told .set-size .given .1) (start .pre)))
 
 same-length : tie.Need-same-length
 same-length c = search needs
 
 returns-2 : tie.Need-returns-2
 unfolding asBytes
-returns-2 c = rw (c .before .before .before .before .before .before .before .before .before .before .before .set-size .given .1) (join (c .before .before .before .before .before .before .before .put .ensures) (put-is (ap decimal (c .before .before .before .bytes .ensures .0)) (c .before .before .put-decimal .ensures)))
+returns-2 c =
+    let numbered = c .before .before in
+    let counted = numbered .before in
+    let opened = counted .before .before .before .before in
+    let told = opened .before .before .before .before in
+    rw (told .set-size .given .1)
+    (join (opened .put .ensures) (put-is (ap decimal (counted .bytes .ensures .0)) (numbered .put-decimal .ensures)))
 
 pub put-size-spec : {M : Type 1} → statement M
 put-size-spec = tie.close (tie.spec enum-known-set-size enum-told returns slice-aggregate-put put-requires bytes-requires put-decimal-requires same-length returns-2)

@@ -4,7 +4,7 @@ use borrow.Author.Needs.{needs}
 use mathlib.Core.Path.{sym}
 use lib.Seq.{length-take-le}
 use Rattle.opcodes.proofs.Naming.{name-taken, name-within}
-use Rattle.listing.proofs.Turns.{put-is}
+use Rattle.listing.proofs.Turns.{put-is, room-is}
 use Rattle.listing.proofs.ops.put_name.Statement.{statement}
 use Rattle.listing.proofs.ops.put_name.Tie as tie
 
@@ -18,13 +18,19 @@ slice-aggregate-put : tie.Need-slice-aggregate-put
 slice-aggregate-put c = sym (length-take-le _ _ (name-within _ _ (c .before .before .before .name .ensures)))
 
 put-requires : tie.Need-put-requires
-put-requires c κs = rw (name-taken _ _ (c .before .before .before .name .ensures)) (c .before .before .before .before .before .pre)
+put-requires c κs =
+    let named = c .before .before .before in
+    let start = named .before .before in
+    room-is _ (sym (name-taken _ _ (named .name .ensures))) (start .pre)
 
 same-length : tie.Need-same-length
 same-length c = search needs
 
 returns : tie.Need-returns
-returns c = put-is (name-taken _ _ (c .before .before .before .before .before .before .name .ensures)) (c .before .before .put .ensures)
+returns c =
+    let put = c .before .before in
+    let named = put .before .before .before .before in
+    put-is (name-taken _ _ (named .name .ensures)) (put .put .ensures)
 
 pub put-name-spec : {M : Type 1} → statement M
 put-name-spec = tie.close (tie.spec name-requires array-share-prefix-letters slice-aggregate-put put-requires same-length returns)

@@ -18,15 +18,19 @@ enum-told : tie.Need-enum-told
 enum-told c = search needs
 
 returns : tie.Need-returns
-returns c = put-is (immediate-none _ _ (push-none _ (sym (c .before .before .push-size .ensures) ∙ c .enum-told .given .1))) (put-none _ _)
+returns c =
+    let sized = c .before .before in
+    put-is (immediate-none _ _ (push-none _ (sym (sized .push-size .ensures) ∙ c .enum-told .given .1))) (put-none _ _)
 
 cast-put-immediate : tie.Need-cast-put-immediate
 cast-put-immediate c = search needs
 
 put-immediate-requires : tie.Need-put-immediate-requires
 put-immediate-requires c κs =
-    let size = push-bytes _ _ (sym (c .before .before .before .before .push-size .ensures) ∙ c .before .before .push-size2 .given .1) in
-    let pre = c .before .before .before .before .before .before .before .pre in
+    let told = c .before .before in
+    let sized = told .before .before in
+    let pre = sized .before .before .before .pre in
+    let size = push-bytes _ _ (sym (sized .push-size .ensures) ∙ told .push-size2 .given .1) in
     (size .1, pre .0, pre .1, rw (size .0) at (pre .2))
 
 same-length : tie.Need-same-length
@@ -34,8 +38,11 @@ same-length c = search needs
 
 returns-2 : tie.Need-returns-2
 returns-2 c =
-    let size = push-bytes _ _ (sym (c .before .before .before .before .before .before .before .push-size .ensures) ∙ c .before .before .before .before .before .push-size2 .given .1) in
-    rw (size .0) (c .before .before .put-immediate .ensures)
+    let put = c .before .before in
+    let told = put .before .before .before in
+    let sized = told .before .before in
+    let size = push-bytes _ _ (sym (sized .push-size .ensures) ∙ told .push-size2 .given .1) in
+    rw (size .0) (put .put-immediate .ensures)
 
 pub put-operand-spec : {M : Type 1} → statement M
 put-operand-spec = tie.close (tie.spec push-size-requires enum-known-push-size enum-told returns cast-put-immediate put-immediate-requires same-length returns-2)

@@ -1,7 +1,7 @@
 -- The invariant: putting the lines from i on, from here, is putting them all from the start. The measure is what is left.
 -- Assumes nothing.
 use borrow.Author.Needs.{needs}
-use Prim.Native.Nat.{_-_}
+use Prim.Native.Nat.{_-_, _≤_}
 use native.Mathlib.Omega.{arith}
 use lib.ListN.{getD}
 use lib.Seq.{slice}
@@ -30,25 +30,41 @@ loop-holds c = left-start _ _ _
 
 put-instruction-requires : tie.Need-put-instruction-requires Inv-loop μ-loop
 put-instruction-requires c κs =
-    let pre = c .before .before .before .before .before .before .before .pre in
-    let test = c .before .loop-test .taken in
-    (test, pre .0 .1, ops-room _ _ _ test (pre .0 .1) (c .before .before .loop .inv) (pre .1))
+    let test = c .before in
+    let turn = test .before in
+    let pre = turn .before .before .before .before .before .pre in
+    (test .loop-test .taken, pre .0 .1, ops-room _ _ _ (test .loop-test .taken) (pre .0 .1) (turn .loop .inv) (pre .1))
 
 shared-slice-read-instruction-length :
     tie.Need-shared-slice-read-instruction-length Inv-loop μ-loop
-shared-slice-read-instruction-length c = omega (arith, c .before .before .before .before .before .before .before .before .before .before .before .pre .0 .1)
+shared-slice-read-instruction-length c =
+    let test = c .before .before .before .before .before in
+    let start = test .before .before .before .before .before .before in
+    omega (arith, start .pre .0 .1)
 
 instruction-length-requires : tie.Need-instruction-length-requires Inv-loop μ-loop
 instruction-length-requires c κs = search needs
 
+-- an instruction is 1 to 33 bytes long
+counted : (c : tie.After-instruction-length Inv-loop μ-loop) → (1 ≤ c .instruction-length .result) × (c .instruction-length .result ≤ 33)
+counted c =
+    let turn = c .before .before .before .before .before .before .before in
+    let start = turn .before .before .before .before .before in
+    omega (arith, c .instruction-length .ensures, length-bounds (getD (now (start .args .bytes)) (turn .loop .i) 0))
+
 add-i : tie.Need-add-i Inv-loop μ-loop
-add-i c = omega (arith, c .instruction-length .ensures, length-bounds (getD (now (c .before .before .before .before .before .before .before .before .before .before .before .before .args .bytes)) (c .before .before .before .before .before .before .before .loop .i) 0))
+add-i c = omega (arith, counted c)
 
 loop-less : tie.Need-loop-less Inv-loop μ-loop
-loop-less c = omega (arith, c .instruction-length .ensures, length-bounds (getD (now (c .before .before .before .before .before .before .before .before .before .before .before .before .args .bytes)) (c .before .before .before .before .before .before .before .loop .i) 0))
+loop-less c = omega (arith, counted c)
 
 loop-again : tie.Need-loop-again Inv-loop μ-loop
-loop-again c = ops-turn _ _ _ _ (c .before .before .before .before .before .before .loop-test .taken) (c .before .before .before .before .before .before .before .before .before .before .before .before .pre .0 .1) (c .instruction-length .ensures) (c .before .before .before .before .before .before .before .loop .inv) (c .before .before .before .before .put-instruction .ensures)
+loop-again c =
+    let put = c .before .before .before .before in
+    let test = put .before .before in
+    let turn = test .before in
+    let start = turn .before .before .before .before .before in
+    ops-turn _ _ _ _ (test .loop-test .taken) (start .pre .0 .1) (c .instruction-length .ensures) (turn .loop .inv) (put .put-instruction .ensures)
 
 same-length : tie.Need-same-length Inv-loop μ-loop
 same-length c = c .before .loop .inv .same

@@ -5,19 +5,18 @@ use Prim.Native.Nat.{_-_, _≤_}
 use native.Mathlib.Omega.{arith}
 use denote.Ref.{now}
 use Rattle.records.specs.Store.{storeOf, wordsPerSection}
-use Rattle.records.specs.Sections.{decode}
-use Rattle.listing.specs.Listing.{listing}
+use Rattle.undamaged.proofs.Soundness.{undamaged-iff}
+use Rattle.listing.specs.Put.{storeText}
 use Rattle.listing.proofs.Puts.{Left, left-start}
 use Rattle.listing.proofs.Turns.{left-is}
-use Rattle.listing.proofs.Undamaged.{sound-facts}
-use Rattle.listing.proofs.Every.{rest, rest-start, every-turn, every-room, every-done, read-in}
+use Rattle.listing.proofs.Every.{rest, rest-start, every-turn, every-room, every-done, words-in}
 use Rattle.listing.proofs.sections.put_sections.Statement.{statement}
 use Rattle.listing.proofs.sections.put_sections.Tie as tie
 
 abbrev Inv-loop : tie.InvT-loop
 Inv-loop text₀ at store bytes words here₀ i₀ text here i =
     (i ≤ store .sections)
-    × Left text₀ at (listing (decode wordsPerSection (storeOf store bytes words))) text here (rest wordsPerSection (storeOf store bytes words) i)
+    × Left text₀ at (storeText wordsPerSection (storeOf store bytes words)) text here (rest wordsPerSection (storeOf store bytes words) i)
 
 abbrev μ-loop : tie.MeasureT-loop
 μ-loop text₀ at store bytes words here₀ i₀ text here i = store .sections - i
@@ -30,15 +29,21 @@ cast-section-words c = search needs
 
 section-words-requires : tie.Need-section-words-requires Inv-loop μ-loop
 section-words-requires c κs =
-    let s = c .before .before .before .before .before .before .before in
-    let st = storeOf (s .args .store) (now (s .args .bytes)) (now (s .args .words)) in
-    omega (arith, sound-facts _ st (s .pre .sound) .wordsFit, c .before .before .before .loop .inv .0)
+    let turn = c .before .before .before in
+    let start = turn .before .before .before .before in
+    let st = storeOf (start .args .store) (now (start .args .bytes)) (now (start .args .words)) in
+    omega (arith, undamaged-iff _ st .0 (start .pre .sound) .wordsFit, turn .loop .inv .0)
 
 put-words-requires : tie.Need-put-words-requires Inv-loop μ-loop
 put-words-requires c κs =
-    let s = c .before .before .before .before .before .before .before .before in
-    let st = storeOf (s .args .store) (now (s .args .bytes)) (now (s .args .words)) in
-    (read-in _ st (sound-facts _ st (s .pre .sound)) _ _ (c .before .before .if1 .taken) (c .section-words .ensures), every-room _ st _ (c .before .before .if1 .taken) _ (c .section-words .ensures) (c .before .before .before .before .loop .inv .1) (s .pre .room))
+    let some = c .before .before in
+    let turn = some .before .before in
+    let start = turn .before .before .before .before in
+    let st = storeOf (start .args .store) (now (start .args .bytes)) (now (start .args .words)) in
+    let words = c .section-words .ensures in (
+      words-in _ st (undamaged-iff _ st .0 (start .pre .sound)) _ _ (some .if1 .taken) words,
+      every-room _ st _ (some .if1 .taken) _ words (turn .loop .inv .1) (start .pre .room),
+    )
 
 add-i : tie.Need-add-i Inv-loop μ-loop
 add-i c = omega arith
@@ -48,18 +53,23 @@ loop-less c = omega arith
 
 loop-again : tie.Need-loop-again Inv-loop μ-loop
 loop-again c =
-    let s = c .before .before .before .before .before .before .before .before .before .before .before in
-    let st = storeOf (s .args .store) (now (s .args .bytes)) (now (s .args .words)) in
-    (omega arith, every-turn _ st _ (c .before .before .before .before .before .if1 .taken) _ (c .before .before .before .section-words .ensures) (c .before .before .before .before .before .before .before .loop .inv .1) (c .before .before .put-words .ensures))
+    let put = c .before .before in
+    let read = put .before in
+    let some = read .before .before in
+    let turn = some .before .before in
+    let start = turn .before .before .before .before in
+    let st = storeOf (start .args .store) (now (start .args .bytes)) (now (start .args .words)) in
+    (omega arith, every-turn _ st _ (some .if1 .taken) _ (read .section-words .ensures) (turn .loop .inv .1) (put .put-words .ensures))
 
 same-length : tie.Need-same-length Inv-loop μ-loop
 same-length c = c .before .before .loop .inv .1 .same
 
 returns : tie.Need-returns Inv-loop μ-loop
 returns c =
-    let s = c .before .before .before .before .before .before in
-    let st = storeOf (s .args .store) (now (s .args .bytes)) (now (s .args .words)) in
-    every-done _ st _ (c .if1 .left) (c .before .before .loop .inv .1)
+    let turn = c .before .before in
+    let start = turn .before .before .before .before in
+    let st = storeOf (start .args .store) (now (start .args .bytes)) (now (start .args .words)) in
+    every-done _ st _ (c .if1 .left) (turn .loop .inv .1)
 
 pub put-sections-spec : {M : Type 1} → statement M
 put-sections-spec =
