@@ -64,11 +64,16 @@ readRef m s p = Read (MarkRef (record { «mark_ref» = m; «set_size» = setSize
 
 -- Direct: number, then set size plus 8 if pushed: 0 to 4, 8 to 12
 unfoldable pub readDirect : ℕ → ℕ → SectionRead
-readDirect a b = cond (ltb maxMark a) Damaged (cond (leb b 4) (readRef (Direct (record { 0 = a })) b false) (cond (leb 8 b && leb b 12) (readRef (Direct (record { 0 = a })) (b - 8) true) Damaged))
+readDirect a b =
+    cond (ltb maxMark a) Damaged
+    (cond (leb b 4) (readRef (Direct (record { 0 = a })) b false)
+    (cond (leb 8 b && leb b 12) (readRef (Direct (record { 0 = a })) (b - 8) true)
+    Damaged))
 
 -- Delta: start mark, end mark
 unfoldable pub readDelta : ℕ → Bool → ℕ → ℕ → SectionRead
-readDelta s p a b = cond (leb a maxMark && leb b maxMark) (readRef (Delta (record { start = record { 0 = a }; end = record { 0 = b } })) s p) Damaged
+readDelta s p a b =
+    cond (leb a maxMark && leb b maxMark) (readRef (Delta (record { start = record { 0 = a }; end = record { 0 = b } })) s p) Damaged
 
 -- a section read back from its three words
 unfoldable pub readSection : StoredSection → SectionRead
