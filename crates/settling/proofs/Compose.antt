@@ -15,13 +15,13 @@ use Rattle.records.specs.declared.damage.Soundness.{Soundness}
 use Rattle.records.specs.declared.damage.Soundness.the-variants.{Sound, Damaged}
 use Rattle.layout.specs.Passes.{start, Settling, settled, narrowAt, unsettled, passes, settle}
 use Rattle.layout.specs.Conditions.{Never, shortAt, firstShort, firstUnplaced, firstApart, firstBackward}
+use Rattle.layout.proofs.Least.{none-first}
 use Rattle.layout.specs.Answer.{LayoutRefusal, shortTable, unplaced, placedApart, backward, layoutNumbers, Laid}
 use Rattle.layout.specs.Answer.{Answer, laidOut, noLayout, orElse, settlingAnswer, answer, answerReply, answerTable}
-use Rattle.settling.specs.Pieces.{passesReply, passesTable}
+use Rattle.settling.specs.SectionWalk.{passesReply, passesTable}
 use Rattle.settling.specs.Settle.{settlement, settling, settledReply}
 use Rattle.settling.specs.declared.Settled.{Settled}
 use Rattle.settling.specs.declared.Settled.the-variants.{LaidOut, Refused}
-use Rattle.settling.proofs.Searches.{none-found}
 
 -- a reply and a table that are those of an answer
 abbrev pub Answers : ℕ → Answer → Reply Laid → List ℕ → Type 0
@@ -90,7 +90,7 @@ module _ (n : ℕ) (ss : List Section) (short : ℕ) (is-short : short ≡ first
   -- no 7
   pub none-short : length ss ≤ short → Never ss (shortAt n ss)
   unfolding firstShort
-  none-short l = none-found ss (shortAt n ss) short is-short l
+  none-short l = none-first ss (shortAt n ss) (omega (arith, is-short))
 
   module _ (no-short : length ss ≤ short) (found : ℕ) (is-unplaced : found ≡ firstUnplaced ss) where
     -- 8

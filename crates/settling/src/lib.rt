@@ -1,7 +1,7 @@
 // Document 01, module 3: the tests for 7, 8 and 9, and the settling. The lent table holds what the tests need to remember; it is 0 again when they refuse.
 mod passes;
-mod piece;
 mod search;
+mod section;
 mod table;
 
 use crate::passes::run_passes;
@@ -20,8 +20,7 @@ ghost use lib.ListN.{length, replicate};
 ghost use Rattle.records.specs.Store.{storeOf, wordsPerSection};
 ghost use Rattle.layout.specs.Passes.{start, settle};
 ghost use Rattle.layout.specs.Answer.{answer, settlingAnswer, answerReply, answerTable};
-ghost use Rattle.settling.specs.Pieces.{sectionsOf, Whole, Fitting};
-ghost use Rattle.settling.specs.Words.{lessOne};
+ghost use Rattle.settling.specs.SectionWalk.{sectionsOf, Whole, Fitting, lessOne};
 ghost use Rattle.settling.specs.Settle.{settling, settledReply};
 
 // Settled: the code's length in all and the passes made; or a refusal, 6 to 12, with the table all 0.

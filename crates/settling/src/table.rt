@@ -1,7 +1,8 @@
 // The lent table: all 0, the table of first placings that 8 and 9 read, and the start table.
-use crate::piece::least_size;
-use crate::piece::section_words;
+use crate::section::least_size;
+use crate::section::section_words;
 use records::Assembler;
+use records::kind;
 ghost use mathlib.Core.Path.{_≡_};
 ghost use mathlib.Core.Bool.{cond, not};
 ghost use Prim.Native.Nat.{_+_, _-_, _≤_, _<_};
@@ -9,8 +10,7 @@ ghost use lib.Dec.{eqb, ltb};
 ghost use lib.ListN.{length, replicate};
 ghost use Rattle.layout.specs.Passes.{entry, start};
 ghost use Rattle.layout.specs.Conditions.{firstApart};
-ghost use Rattle.settling.specs.Pieces.{sectionsOf, Fitting, firstSums};
-ghost use Rattle.settling.specs.Words.{placeMark, lessOne};
+ghost use Rattle.settling.specs.SectionWalk.{sectionsOf, Fitting, placeMark, firstSums, lessOne};
 
 // Every entry to 0.
 pub fn clear(table: &mut [u32])
@@ -63,7 +63,7 @@ pub(crate) fn place(store: Assembler, bytes: &[u8], words: &[u32], table: &mut [
     let mut apart = store.sections;
     while i < store.sections {
         let section = section_words(words, i as usize);
-        if section.kind == 0 {
+        if section.kind == kind::MARK {
             let is_apart = place_mark(table, section.first as usize, sum);
             apart = earlier(apart, i, is_apart);
         } else {

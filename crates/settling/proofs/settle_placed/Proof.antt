@@ -8,7 +8,7 @@ use lib.ListN.{length, replicate}
 use denote.Ref.{now}
 use Rattle.records.specs.Store.{storeOf, wordsPerSection}
 use Rattle.layout.specs.Passes.{settle}
-use Rattle.settling.specs.Pieces.{sectionsOf, Fitting, passesReply, passesTable}
+use Rattle.settling.specs.SectionWalk.{sectionsOf, Fitting, passesReply, passesTable}
 use Rattle.settling.proofs.Sections.{decode-count}
 use Rattle.settling.proofs.Compose.{settle-is, placed-refused, placed-backward, placed-done}
 use Rattle.settling.proofs.settle_placed.Statement.{statement}

@@ -8,7 +8,7 @@ use denote.Ref.{now}
 use Rattle.records.specs.Store.{storeOf, wordsPerSection}
 use Rattle.layout.specs.Passes.{start as start-table, settle}
 use Rattle.layout.specs.Answer.{answer, settlingAnswer, answerReply, answerTable}
-use Rattle.settling.specs.Pieces.{sectionsOf, Fitting, firstSums}
+use Rattle.settling.specs.SectionWalk.{sectionsOf, Fitting, firstSums}
 use Rattle.settling.proofs.Sections.{decode-count}
 use Rattle.settling.proofs.Compose.{answers-refused, answers-same, whole-short, none-short, whole-unplaced, whole-apart, whole-on}
 use borrow.Author.Needs.{needs}

@@ -1,8 +1,8 @@
--- The table of first placings less 1 is the start table where no mark is placed apart; and the first placing apart, as the walk has
+-- The start table is the table of first placings less 1, where no mark is placed apart; and the first placing apart, as the walk has
 -- found it so far. Assumes nothing.
 use Prim.Native.Nat.{ℕ, zero, suc, _+_, _-_, _≤_, _<_}
 use native.Mathlib.Omega.{arith}
-use mathlib.Core.Path.{_≡_, refl, sym, ap, _∙_}
+use mathlib.Core.Path.{_≡_, refl, sym, ap, ap₂, _∙_}
 use mathlib.Core.Bool.{Bool, true, false, cond, not}
 use mathlib.Core.List.{List, [], _∷_}
 use mathlib.Core.Logic.{_⊎_, inl, inr}
@@ -11,20 +11,14 @@ use lib.ListN.{length, getD, set, drop, replicate, length-set}
 use lib.Seq.{getD-set-same, getD-set-other, ext-getD}
 use borrow.Author.Tests.{eqb-true, eqb-false, eq-eqb, ne-eqb, lt-ltb, le-ltb, ltb-false, not-false}
 use Rattle.slices.specs.First.{leastFrom}
+use Rattle.slices.proofs.First.{NoneBefore, search-start, search-next, search-hit, search-done}
 use Rattle.records.specs.Sections.{Section, mark}
 use Rattle.layout.specs.Passes.{entry, startFrom}
-use Rattle.layout.specs.Conditions.{apartAt}
+use Rattle.layout.specs.Conditions.{sectionAt, apartAt}
 use Rattle.layout.proofs.Apart.{leastBefore}
-use Rattle.units.specs.declared.MarkId.{MarkId}
-use Rattle.settling.specs.Pieces.{shortPiece, apartPiece, placeFrom, firstSums}
-use Rattle.settling.specs.Words.{placeMark, lessOne}
-use Rattle.settling.specs.declared.piece.Piece.{Piece}
-use Rattle.settling.specs.declared.piece.Piece.the-variants as piece
-use Rattle.settling.proofs.Sections.{Turn}
-use Rattle.settling.proofs.Searches.{sought-start, sought-hit, sought-next, sought-done}
-use Rattle.settling.proofs.Places.{place-kept, apart-test}
-use Rattle.settling.proofs.Turns.{left-mark}
-use Rattle.settling.proofs.Words.{NotMark}
+use Rattle.settling.specs.SectionWalk.{placeMark, placeFrom, firstSums, lessOne}
+use Rattle.settling.proofs.Turns.{start-at}
+use Rattle.settling.proofs.FirstPlacings.{place-kept, apart-test}
 
 -- ---- less 1
 
@@ -113,40 +107,25 @@ module _ (table : List ℕ) (m sum : ℕ) (l : m < length table) where
       go false e h = eqb-false _ 0 e h
 
   -- not apart, the start table goes on with it
-  pub placed-start : (rest : List Section) → not (eqb (entry (placeMark table m sum) m) (sum + 1)) ≡ false
-      → startFrom (mark m ∷ rest) sum (lessOne table) ≡ startFrom rest sum (lessOne (placeMark table m sum))
-  unfolding startFrom
-  placed-start rest h = ap (startFrom rest sum) (go (eqb (entry table m) 0) refl (eqb-true _ (sum + 1) (not-false _ h)))
+  placed-less : not (eqb (entry (placeMark table m sum) m) (sum + 1)) ≡ false → set (lessOne table) m sum ≡ lessOne (placeMark table m sum)
+  placed-less h = go (eqb (entry table m) 0) refl (eqb-true _ (sum + 1) (not-false _ h))
     where
       go : (q : Bool) → eqb (entry table m) 0 ≡ q → entry (cond q (set table m (sum + 1)) table) m ≡ sum + 1 → set (lessOne table) m sum ≡ lessOne (cond q (set table m (sum + 1)) table)
       go true e d = sym (less-set table m sum)
       go false e d = set-same (lessOne table) m sum (omega (arith, length-less table)) (omega (arith, less-at table m))
 
-  -- apart, as 9 has it: the entry stays what it is
-  pub placed-apart : (n : ℕ) (ss : List Section) (i : ℕ) (rest : List Section) (p : Piece) (mk : MarkId) → mk .0 ≡ m → p ≡ piece.Mark mk → shortPiece n p ≡ false → Turn ss i p → sum ≡ leastBefore ss i
-      → placeFrom rest sum (placeMark table m sum) ≡ firstSums n ss → not (eqb (entry (placeMark table m sum) m) (sum + 1)) ≡ apartAt ss i
-  placed-apart n ss i rest p mk im e h t d whole =
-      let kept : entry (firstSums n ss) m ≡ entry (placeMark table m sum) m = ap (λ (x : List ℕ). entry x m) (sym whole) ∙ place-kept rest sum (placeMark table m sum) m placed-not-zero in
-      ap (λ (x : ℕ). not (eqb x (sum + 1))) (sym kept)
-      ∙ ap (λ (x : ℕ). not (eqb (entry (firstSums n ss) x) (sum + 1))) (sym im)
-      ∙ ap (apartPiece (firstSums n ss) sum) (sym e)
-      ∙ apart-test n ss i p (firstSums n ss) sum refl d h t
+  module _ (ss : List Section) (i : ℕ) (k : i < length ss) (e : sectionAt ss i ≡ mark m) where
+    pub start-placed : not (eqb (entry (placeMark table m sum) m) (sum + 1)) ≡ false
+        → startFrom (drop i ss) sum (lessOne table) ≡ startFrom (drop (i + 1) ss) sum (lessOne (placeMark table m sum))
+    start-placed h = start-at ss i k sum (lessOne table) m e ∙ ap (startFrom (drop (i + 1) ss) sum) (placed-less h)
 
--- at a mark that isn't apart
-pub start-placed : (ss : List Section) (i : ℕ) (p : Piece) (t : Turn ss i p) (sum : ℕ) (table : List ℕ) (m : MarkId) → p ≡ piece.Mark m → m .0 < length table
-    → not (eqb (entry (placeMark table (m .0) sum) (m .0)) (sum + 1)) ≡ false
-    → startFrom (drop i ss) sum (lessOne table) ≡ startFrom (drop (i + 1) ss) sum (lessOne (placeMark table (m .0) sum))
-start-placed ss i p t sum table m e l h =
-    ap (λ (x : List Section). startFrom x sum (lessOne table)) (left-mark ss i p t m e) ∙ placed-start table (m .0) sum l (drop (i + 1) ss) h
-
--- another section is never apart
-pub other-apart : (n : ℕ) (ss : List Section) (i : ℕ) (p : Piece) (sum : ℕ) → NotMark p → shortPiece n p ≡ false → Turn ss i p → sum ≡ leastBefore ss i → apartAt ss i ≡ false
-other-apart n ss i p sum other h t d = sym (apart-test n ss i p (firstSums n ss) sum refl d h t) ∙ none p other
-  where
-    none : (q : Piece) → NotMark q → apartPiece (firstSums n ss) sum q ≡ false
-    none (piece.Mark m) z = absurd z
-    none (piece.Block k) z = refl
-    none (piece.Reference r) z = refl
+    -- apart, as 9 has it: the entry stays what it is
+    pub placed-apart : (n : ℕ) → m < n → sum ≡ leastBefore ss i → placeFrom (drop (i + 1) ss) sum (placeMark table m sum) ≡ firstSums n ss
+        → not (eqb (entry (placeMark table m sum) m) (sum + 1)) ≡ apartAt ss i
+    placed-apart n h d whole =
+        let kept : entry (firstSums n ss) m ≡ entry (placeMark table m sum) m =
+        ap (λ (x : List ℕ). entry x m) (sym whole) ∙ place-kept (drop (i + 1) ss) sum (placeMark table m sum) m placed-not-zero in
+        ap₂ (λ (x y : ℕ). not (eqb x (y + 1))) (sym kept) d ∙ apart-test n ss i m k e h
 
 -- ---- the earlier of two
 
@@ -168,27 +147,27 @@ module _ (b : Bool) (i found : ℕ) where
 
 -- none among those before i; or the first of all
 abbrev pub SoFar : ℕ → (ℕ → Bool) → ℕ → ℕ → Type 0
-SoFar k test i found = ((found ≡ k) × (leastFrom test (k - i) i ≡ leastFrom test k 0)) ⊎ ((found < i) × (found ≡ leastFrom test k 0))
+SoFar k test i found = ((found ≡ k) × NoneBefore test i) ⊎ ((found < i) × (found ≡ leastFrom test k 0))
 
 pub so-start : (k : ℕ) (test : ℕ → Bool) → SoFar k test 0 k
-so-start k test = inl (refl, sought-start k test .1)
+so-start k test = inl (refl, search-start test)
 
 pub so-next : (k : ℕ) (test : ℕ → Bool) (i found found′ : ℕ) (q : Bool) → SoFar k test i found → i < k → test i ≡ q → found′ ≡ cond q (cond (ltb i found) i found) found → SoFar k test (i + 1) found′
 so-next k test i found found′ true (inl h) l e d =
     let s : ltb i found ≡ true = lt-ltb i found (omega (arith, h .0)) in
     let r : found′ ≡ i = rw s at d in
-    inr (omega (arith, r), r ∙ sought-hit k test i (omega arith, h .1) l e)
+    inr (omega (arith, r), r ∙ search-hit test k i (h .1) l e)
 so-next k test i found found′ true (inr h) l e d =
     let s : ltb i found ≡ false = le-ltb i found (omega (arith, h .0)) in
     let r : found′ ≡ found = rw s at d in
     inr (omega (arith, r, h .0), r ∙ h .1)
-so-next k test i found found′ false (inl h) l e d = inl (d ∙ h .0, sought-next k test i (omega arith, h .1) l e .1)
+so-next k test i found found′ false (inl h) l e d = inl (d ∙ h .0, search-next test i (h .1) e)
 so-next k test i found found′ false (inr h) l e d = inr (omega (arith, d, h .0), d ∙ h .1)
 
 pub so-done : (k : ℕ) (test : ℕ → Bool) (i found : ℕ) → SoFar k test i found → i ≤ k → k ≤ i → found ≡ leastFrom test k 0
 so-done k test i found (inl h) u l =
     let e : found ≡ i = omega (arith, h .0) in
-    e ∙ sought-done k test i (u, h .1) l
+    e ∙ search-done test k i (h .1) u l
 so-done k test i found (inr h) u l = h .1
 
 -- none so far, none found

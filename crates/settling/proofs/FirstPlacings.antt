@@ -3,27 +3,26 @@
 use Prim.Native.Nat.{ℕ, zero, suc, _+_, _≤_, _<_, suc-le-suc}
 use native.Mathlib.Omega.{arith}
 use mathlib.Core.Path.{_≡_, refl, sym, ap, _∙_}
-use mathlib.Core.Bool.{Bool, true, false, cond, not, true≢false}
+use mathlib.Core.Bool.{Bool, true, false, cond, not, _&&_, true≢false}
 use mathlib.Core.List.{List, [], _∷_}
 use mathlib.Core.Logic.{_⊎_, inl, inr}
 use lib.Dec.{eqb, leb}
 use lib.ListN.{length, set, replicate, length-set, length-replicate, getD-replicate}
 use lib.Seq.{getD-set-same, getD-set-other}
-use borrow.Author.Tests.{eqb-true, eqb-false, eq-eqb, ne-eqb, leb-false, leb-true, lt-ltb, le-ltb}
+use borrow.Author.Tests.{eqb-true, eqb-false, eq-eqb, ne-eqb, leb-false, leb-true, not-true}
 use Rattle.units.specs.Reference.{leastSize}
 use Rattle.units.specs.declared.MarkReference.{MarkReference}
 use Rattle.units.specs.declared.MarkReference.the-variants.{Direct, Delta}
 use Rattle.records.specs.Sections.{Section, mark, ops, bytes, reference}
+use Rattle.records.specs.declared.record.StoredSection.{StoredSection}
 use Rattle.layout.specs.Passes.{entry}
-use Rattle.layout.specs.Conditions.{sectionAt, sumOf, Never, placesSome, someMark, namesSome, placed, shortAt, unplacedAt, firstUnplaced, apartAt}
+use Rattle.layout.specs.Conditions.{sectionAt, sumOf, Never, someBelow, placesSome, someMark, namesSome, placed, shortAt, unplacedAt, firstUnplaced, bytesBetween, apartAt}
 use Rattle.layout.proofs.Least.{none-below, never-law}
-use Rattle.layout.proofs.Moves.{widthBy}
+use Rattle.layout.proofs.Moves.{widthBy, or-false}
 use Rattle.layout.proofs.Apart.{leastBefore, placed-law, ApartBySums, apart-sums}
-use Rattle.settling.specs.Pieces.{pieceOf, shortPiece, unplacedPiece, allPlaced, apartPiece, placeFrom, firstSums}
-use Rattle.settling.specs.declared.piece.Piece.{Piece}
-use Rattle.settling.specs.declared.piece.Piece.the-variants as piece
+use Rattle.settling.specs.SectionWalk.{unplacedWords, placeMark, placeFrom, firstSums, allPlaced}
+use Rattle.settling.proofs.SectionWords.{NotMark, unplaced-words}
 use Rattle.settling.proofs.Sections.{Turn, sum-mono}
-use Rattle.settling.proofs.Searches.{Sought, sought-hit, sought-next, sought-done, direct-in, start-in, end-in, in-table}
 
 -- ---- the entries
 
@@ -88,7 +87,7 @@ unfolding placeFrom placed sumOf
 placing [] sum table m l z = inl (z, refl)
 placing (mark a ∷ ss) sum table m l z = go (eqb m a) refl (λ t k y. placing ss sum t m k y)
   where
-    here : m ≡ a → entry (placeFrom ss sum (cond (eqb (entry table a) 0) (set table a (sum + 1)) table)) m ≡ sum + 1
+    here : m ≡ a → entry (placeFrom ss sum (placeMark table a sum)) m ≡ sum + 1
     here d =
         let o : entry (set table m (sum + 1)) m ≡ sum + 1 = getD-set-same table m (sum + 1) 0 l in
         rw (← d, eq-eqb (entry table m) 0 z) (place-kept ss sum (set table m (sum + 1)) m (λ n. omega arith) ∙ o)
@@ -101,7 +100,7 @@ placing (mark a ∷ ss) sum table m l z = go (eqb m a) refl (λ t k y. placing s
     long true = omega (arith, length-set table a (sum + 1))
     long false = l
 
-    go : (q : Bool) → eqb m a ≡ q → ((t : List ℕ) → m < length t → entry t m ≡ 0 → Placing ss m sum (entry (placeFrom ss sum t) m)) → Placing (mark a ∷ ss) m sum (entry (placeFrom ss sum (cond (eqb (entry table a) 0) (set table a (sum + 1)) table)) m)
+    go : (q : Bool) → eqb m a ≡ q → ((t : List ℕ) → m < length t → entry t m ≡ 0 → Placing ss m sum (entry (placeFrom ss sum t) m)) → Placing (mark a ∷ ss) m sum (entry (placeFrom ss sum (placeMark table a sum)) m)
     go true e rest =
         inr (record {
           j = 0;
@@ -134,68 +133,57 @@ entry-unplaced n ss m l = go (first-placing n ss m l)
 
 -- two tests that agree below n agree on a reference whose marks are below n
 some-same : (n : ℕ) (f g : ℕ → Bool) (mr : MarkReference) → ((m : ℕ) → m < n → f m ≡ g m) → someMark (leb n) mr ≡ false → someMark f mr ≡ someMark g mr
-some-same n f g (Direct m) same h = same (m .0) (direct-in n (Direct m) h m refl)
-some-same n f g (Delta s) same h = rw (same (s .start .0) (start-in n (Delta s) h s refl), same (s .end .0) (end-in n (Delta s) h s refl))
+some-same n f g (Direct m) same h = same (m .0) (leb-false n (m .0) h)
+some-same n f g (Delta s) same h =
+    let q = or-false (leb n (s .start .0)) (leb n (s .end .0)) h in
+    rw (same (s .start .0) (leb-false n (s .start .0) (q .0)), same (s .end .0) (leb-false n (s .end .0) (q .1)))
 
--- 8 of one section
-pub unplaced-test : (n : ℕ) (ss : List Section) (i : ℕ) (p : Piece) (table : List ℕ) → table ≡ firstSums n ss → shortPiece n p ≡ false → Turn ss i p → unplacedPiece table p ≡ unplacedAt ss i
-unfolding unplacedAt
-unplaced-test n ss i p table e h t =
-    ap (unplacedPiece table) (t .is) ∙ ap (λ (x : List ℕ). unplacedPiece x (pieceOf (sectionAt ss i))) e ∙ go (sectionAt ss i) (ap (shortPiece n) (sym (t .is)) ∙ h)
-  where
-    go : (s : Section) → shortPiece n (pieceOf s) ≡ false → unplacedPiece (firstSums n ss) (pieceOf s) ≡ namesSome (λ m. not (placed ss m)) s
-    go (mark m) k = refl
-    go (ops bs) k = refl
-    go (bytes bs) k = refl
-    go (reference r) k = some-same n (λ m. eqb (entry (firstSums n ss) m) 0) (λ m. not (placed ss m)) (r .«mark_ref») (λ m l. entry-unplaced n ss m l) k
+-- so on a section
+names-same : (n : ℕ) (f g : ℕ → Bool) (s : Section) → ((m : ℕ) → m < n → f m ≡ g m) → namesSome (leb n) s ≡ false → namesSome f s ≡ namesSome g s
+names-same n f g (mark m) same h = refl
+names-same n f g (ops bs) same h = refl
+names-same n f g (bytes bs) same h = refl
+names-same n f g (reference r) same h = some-same n f g (r .«mark_ref») same h
 
--- the search for an entry that is 0
+-- a mark's entry is 0
 abbrev pub zeroAt : List ℕ → ℕ → Bool
 zeroAt table m = eqb (entry table m) 0
 
-module _ (table : List ℕ) (m : ℕ) (s : Sought (length table) (zeroAt table) m) where
-  pub zero-found : m < length table → entry table m ≡ 0 → false ≡ allPlaced table
-  unfolding allPlaced
-  zero-found l z = ap not (sym (lt-ltb _ (length table) (omega (arith, sought-hit (length table) (zeroAt table) m s l (eq-eqb _ 0 z)))))
+module _ (n : ℕ) (ss : List Section) (table : List ℕ) (is : table ≡ firstSums n ss) (inTable : Never ss (shortAt n ss)) where
+  -- 8 of one section, by its entries
+  unplaced-at : (i : ℕ) → i < length ss → namesSome (zeroAt table) (sectionAt ss i) ≡ unplacedAt ss i
+  unfolding unplacedAt shortAt
+  unplaced-at i l =
+      names-same n (zeroAt table) (λ m. not (placed ss m)) (sectionAt ss i) (λ m k. ap (λ (x : List ℕ). zeroAt x m) is ∙ entry-unplaced n ss m k)
+      (or-false (placesSome (leb n) (sectionAt ss i)) (namesSome (leb n) (sectionAt ss i)) (inTable i l) .1)
 
-  pub zero-next : m < length table → (entry table m ≡ 0 → ⊥) → Sought (length table) (zeroAt table) (m + 1)
-  zero-next l z = sought-next (length table) (zeroAt table) m s l (ne-eqb _ 0 z)
+  -- as the code tests it
+  pub unplaced-test : (i : ℕ) (x : StoredSection) → Turn ss i x → unplacedWords table x ≡ unplacedAt ss i
+  unplaced-test i x t = unplaced-words table (t .words) ∙ unplaced-at i (t .below)
 
-  pub zero-none : length table ≤ m → true ≡ allPlaced table
-  unfolding allPlaced
-  zero-none l = ap not (sym (le-ltb _ (length table) (omega (arith, sought-done (length table) (zeroAt table) m s l))))
+  -- where no entry is 0, it is never said
+  pub all-placed : length table ≡ n → allPlaced table ≡ true → length ss ≡ firstUnplaced ss
+  unfolding firstUnplaced allPlaced shortAt
+  all-placed long h = sym (never-law ss (unplacedAt ss) .1 never)
+    where
+      none : (s : Section) → namesSome (λ m. false) s ≡ false
+      none (mark m) = refl
+      none (ops bs) = refl
+      none (bytes bs) = refl
+      none (reference r) = none-mark (r .«mark_ref»)
+        where
+          none-mark : (mr : MarkReference) → someMark (λ m. false) mr ≡ false
+          none-mark (Direct m) = refl
+          none-mark (Delta s) = refl
 
--- a reference to a table without a 0
-placed-reference : (n : ℕ) (table : List ℕ) (mr : MarkReference) → length table ≡ n → allPlaced table ≡ true → someMark (leb n) mr ≡ false → someMark (zeroAt table) mr ≡ false
-unfolding allPlaced
-placed-reference n table mr e h k = some-same n (zeroAt table) (λ m. false) mr above-zero k ∙ none mr
-  where
-    not-false : (b : Bool) → not b ≡ true → b ≡ false
-    not-false true d = absurd (true≢false (sym d))
-    not-false false d = refl
+      above-zero : (m : ℕ) → m < n → zeroAt table m ≡ false
+      above-zero m l = none-below (length table) (zeroAt table) m (not-true _ h) (omega arith)
 
-    above-zero : (m : ℕ) → m < n → zeroAt table m ≡ false
-    above-zero m l = none-below (length table) (zeroAt table) m (not-false _ h) (omega arith)
-
-    none : (r : MarkReference) → someMark (λ m. false) r ≡ false
-    none (Direct m) = refl
-    none (Delta s) = refl
-
--- so 8 is never said
-pub all-placed : (n : ℕ) (ss : List Section) (table : List ℕ) → table ≡ firstSums n ss → length table ≡ n → allPlaced table ≡ true → Never ss (shortAt n ss) → length ss ≡ firstUnplaced ss
-unfolding firstUnplaced
-all-placed n ss table e d h k = sym (never-law ss (unplacedAt ss) .1 (λ i l. never i (record { below = l; is = refl })))
-  where
-    placed-section : (s : Section) → shortPiece n (pieceOf s) ≡ false → unplacedPiece table (pieceOf s) ≡ false
-    placed-section (mark m) q = refl
-    placed-section (ops bs) q = refl
-    placed-section (bytes bs) q = refl
-    placed-section (reference r) q = placed-reference n table (r .«mark_ref») d h q
-
-    never : (i : ℕ) → Turn ss i (pieceOf (sectionAt ss i)) → unplacedAt ss i ≡ false
-    never i t =
-        let short : shortPiece n (pieceOf (sectionAt ss i)) ≡ false = in-table n ss i _ k t in
-        sym (unplaced-test n ss i _ table e short t) ∙ placed-section (sectionAt ss i) short
+      never : Never ss (unplacedAt ss)
+      never i l =
+          sym (unplaced-at i l)
+          ∙ names-same n (zeroAt table) (λ m. false) (sectionAt ss i) above-zero (or-false (placesSome (leb n) (sectionAt ss i)) (namesSome (leb n) (sectionAt ss i)) (inTable i l) .1)
+          ∙ none (sectionAt ss i)
 
 -- ---- 9
 
@@ -234,25 +222,21 @@ apart-mark ss i m x l e f = go (eqb x (leastBefore ss i + 1)) refl
     go false h = sym (apart-sums ss i l .1 (apart (eqb-false x (leastBefore ss i + 1) h)))
 
 -- 9 is never said of another section
-apart-none : (ss : List Section) (i : ℕ) (s : Section) → sectionAt ss i ≡ s → placesSome (λ m. true) s ≡ false → false ≡ apartAt ss i
+pub apart-none : (ss : List Section) (i : ℕ) → NotMark (sectionAt ss i) → apartAt ss i ≡ false
 unfolding apartAt
-apart-none ss i (mark m) k z = absurd (true≢false z)
-apart-none ss i (ops bs) k z = rw k
-apart-none ss i (bytes bs) k z = rw k
-apart-none ss i (reference r) k z = rw k
-
--- 9 of one section
-pub apart-test : (n : ℕ) (ss : List Section) (i : ℕ) (p : Piece) (table : List ℕ) (sum : ℕ) → table ≡ firstSums n ss → sum ≡ leastBefore ss i → shortPiece n p ≡ false → Turn ss i p
-    → apartPiece table sum p ≡ apartAt ss i
-apart-test n ss i p table sum e d h t =
-    ap (apartPiece table sum) (t .is) ∙ rw (e, d) (go (sectionAt ss i) refl (ap (shortPiece n) (sym (t .is)) ∙ h))
+apart-none ss i n = go (sectionAt ss i) n
   where
-    marked : (m : ℕ) → sectionAt ss i ≡ mark m → Placing ss m 0 (entry (firstSums n ss) m) → not (eqb (entry (firstSums n ss) m) (leastBefore ss i + 1)) ≡ apartAt ss i
-    marked m k (inl z) = absurd (true≢false (sym (placed-law ss m .1 (i, t .below, k)) ∙ z .1))
-    marked m k (inr f) = apart-mark ss i m (entry (firstSums n ss) m) (t .below) k f
+    go : (s : Section) → NotMark s → placesSome (λ m. someBelow i (λ j. placesSome (eqb m) (sectionAt ss j) && bytesBetween ss j i)) s ≡ false
+    go (mark m) o = absurd o
+    go (ops bs) o = refl
+    go (bytes bs) o = refl
+    go (reference r) o = refl
 
-    go : (s : Section) → sectionAt ss i ≡ s → shortPiece n (pieceOf s) ≡ false → apartPiece (firstSums n ss) (leastBefore ss i) (pieceOf s) ≡ apartAt ss i
-    go (mark m) k q = marked m k (first-placing n ss m (leb-false n m q))
-    go (ops bs) k q = apart-none ss i (ops bs) k refl
-    go (bytes bs) k q = apart-none ss i (bytes bs) k refl
-    go (reference r) k q = apart-none ss i (reference r) k refl
+-- 9 of a mark, by its entry
+pub apart-test : (n : ℕ) (ss : List Section) (i m : ℕ) → i < length ss → sectionAt ss i ≡ mark m → m < n
+    → not (eqb (entry (firstSums n ss) m) (leastBefore ss i + 1)) ≡ apartAt ss i
+apart-test n ss i m l e h = go (first-placing n ss m h)
+  where
+    go : Placing ss m 0 (entry (firstSums n ss) m) → not (eqb (entry (firstSums n ss) m) (leastBefore ss i + 1)) ≡ apartAt ss i
+    go (inl z) = absurd (true≢false (sym (placed-law ss m .1 (i, l, e)) ∙ z .1))
+    go (inr f) = apart-mark ss i m (entry (firstSums n ss) m) l e f
