@@ -1,7 +1,7 @@
 -- The bytes of a section that can be written, by its kind word: one law for each way that the code goes. Assumes nothing.
-use Prim.Native.Nat.{ℕ, _+_, _%_, _≤_, _<_}
+use Prim.Native.Nat.{ℕ, _+_, _≤_, _<_}
 use native.Mathlib.Omega.{arith}
-use mathlib.Core.Path.{_≡_, refl, sym, ap, _∙_, subst}
+use mathlib.Core.Path.{_≡_, refl, sym, ap, _∙_}
 use mathlib.Core.Bool.{Bool, true, false}
 use mathlib.Core.List.{List, []}
 use lib.Dec.{leb}
@@ -18,13 +18,14 @@ use Rattle.records.specs.declared.record.AsmSection.the-variants.{MarkRef}
 use Rattle.records.specs.declared.record.SectionRead.{SectionRead}
 use Rattle.records.specs.declared.record.SectionRead.the-variants.{Read}
 use Rattle.records.specs.declared.record.StoredSection.{StoredSection}
-use Rattle.layout.specs.Passes.{entry}
+use Rattle.layout.specs.Passes.{entry, valueBy}
+use Rattle.settling.specs.SectionWalk.{valueWords}
 use Rattle.undamaged.specs.Section.{spanBytes, SpanIn, ReadIn}
-use Rattle.undamaged.proofs.Reading.{direct, delta, Reads, is-damaged, is-mark, is-ops, is-data, is-direct, is-delta, reads, mark-read, ops-read, data-read, reference-read}
+use Rattle.undamaged.proofs.Reading.{direct, delta, Reads, is-damaged, is-mark, is-ops, is-data, is-direct, is-delta, reads, mark-read, reference-read}
 use Rattle.undamaged.proofs.Forms.{form-read}
 use Rattle.undamaged.proofs.Sections.{can-read}
 use Rattle.emission.specs.Emission.{referenceBytes, sectionBytes}
-use Rattle.assembler.specs.Writing.{wordsBytes, marksOf, valueOf, formBytes, MarksIn, Writable, WritableReference}
+use Rattle.assembler.specs.Writing.{wordsBytes, formBytes, Writable, WritableReference}
 
 -- ---- a reference by its form
 
@@ -41,22 +42,21 @@ form-bytes : (r : AsmReference) (v : ℕ) → formBytes (formNumber r) v ≡ ref
 unfolding formBytes referenceBytes
 form-bytes r v = rw (zero-form r v, count-form r v, pushed-form r)
 
--- the marks in the words are the reference's
-marks-read : (x : StoredSection) (r : AsmReference) → readSection x ≡ Read (MarkRef r) → marksOf x ≡ r .«mark_ref»
-unfolding marksOf
-marks-read x r e = go (reads x) e
+-- the value by the words is the reference's
+value-read : (table : List ℕ) (x : StoredSection) (r : AsmReference) → readSection x ≡ Read (MarkRef r) → valueWords table x ≡ valueBy (entry table) (r .«mark_ref»)
+unfolding valueWords
+value-read table x r e = go (reads x) e
   where
-    go : {v : SectionRead} → Reads (x .kind) (x .first) (x .second) v → v ≡ Read (MarkRef r) → marksOf x ≡ r .«mark_ref»
+    by : (q : AsmReference) → Read (MarkRef q) ≡ Read (MarkRef r) → valueBy (entry table) (q .«mark_ref») ≡ valueBy (entry table) (r .«mark_ref»)
+    by q h = let same : q ≡ r = cc in ap (λ (p : AsmReference). valueBy (entry table) (p .«mark_ref»)) same
+
+    go : {v : SectionRead} → Reads (x .kind) (x .first) (x .second) v → v ≡ Read (MarkRef r) → valueWords table x ≡ valueBy (entry table) (r .«mark_ref»)
     go is-damaged h = let z : _≡_ {A = ℕ} 0 1 = cc in absurd (omega arith)
     go (is-mark f m) h = let z : _≡_ {A = ℕ} 0 1 = cc in absurd (omega arith)
     go (is-ops f l) h = let z : _≡_ {A = ℕ} 0 1 = cc in absurd (omega arith)
     go (is-data f l) h = let z : _≡_ {A = ℕ} 0 1 = cc in absurd (omega arith)
-    go (is-direct f m s p g) h =
-        let same : direct (x .first) s p ≡ r = cc in
-        rw (eq-eqb (x .kind) directKind f) (ap (λ (q : AsmReference). q .«mark_ref») same)
-    go (is-delta l m n s p g) h =
-        let same : delta (x .first) (x .second) s p ≡ r = cc in
-        rw (ne-eqb (x .kind) directKind (λ q. omega arith)) (ap (λ (q : AsmReference). q .«mark_ref») same)
+    go (is-direct f m s p g) h = rw (eq-eqb (x .kind) directKind f) (by (direct (x .first) s p) h)
+    go (is-delta l m n s p g) h = rw (ne-eqb (x .kind) directKind (λ q. omega arith)) (by (delta (x .first) (x .second) s p) h)
 
 -- ---- a section by its kind word
 
@@ -84,16 +84,17 @@ module _ (table bytes : List ℕ) (x : StoredSection) (ok : Writable bytes table
       go (is-direct f m s p g) h e = absurd (omega arith)
       go (is-delta o m q s p g) h e = absurd (omega arith)
 
-  pub bytes-reference : directKind ≤ x .kind → WritableReference table x × (wordsBytes table bytes x ≡ formBytes (formOf x) (valueOf table x))
+  pub bytes-reference : directKind ≤ x .kind → WritableReference table x × (wordsBytes table bytes x ≡ formBytes (formOf x) (valueWords table x))
   bytes-reference k =
       let found = reference-read (reads x) readable k in
       let r : AsmReference = found .0 in
       let e : readSection x ≡ Read (MarkRef r) = found .1 in
-      let marks : marksOf x ≡ r .«mark_ref» = marks-read x r e in
       let form : formOf x ≡ formNumber r = form-read x r e in (
         record {
-          marks = subst (MarksIn table) (sym marks) (ok .marks r e);
+          kind = k;
+          marks = ok .marks;
+          forward = ok .forward;
           size = rw form (omega (arith, form-parts (r .«set_size») (r .pushed) .0, sizeNumber-le (r .«set_size»)));
         },
-        bytes-of _ e ∙ rw (form, marks) (sym (form-bytes r _)),
+        bytes-of _ e ∙ rw (form, value-read table x r e) (sym (form-bytes r _)),
       )

@@ -4,27 +4,28 @@ use native.Mathlib.Omega.{arith}
 use native.Mathlib.Numerals.{add-one}
 use native.Mathlib.Nat.{add-zero, sub-zero}
 use mathlib.Core.Path.{_≡_, refl, sym, _∙_, ap, subst}
-use mathlib.Core.Bool.{Bool, true, false, false≢true, cond}
+use mathlib.Core.Bool.{Bool, true, false, false≢true}
 use mathlib.Core.List.{List, [], _∷_, _++_}
-use lib.Dec.{leb, eqb}
+use lib.Dec.{leb, ltb, eqb}
 use lib.ListN.{length, getD, set, length-append}
 use lib.Seq.{slice, slice-cons}
-use borrow.Author.Tests.{eq-eqb, ne-eqb}
+use borrow.Author.Tests.{eq-eqb, ne-eqb, lt-ltb, ltb-false}
 use Rattle.units.specs.Numbers.{bigEndian, heldBytes}
 use Rattle.units.specs.Form.{countByForm, pushZeroByForm}
 use Rattle.units.proofs.Held.{held-le}
 use Rattle.units.proofs.BigEndian.{length-bigEndian}
-use Rattle.records.specs.Record.{directKind, readSection}
+use Rattle.records.specs.Record.{directKind}
 use Rattle.records.specs.Store.{Store, sectionWords}
-use Rattle.records.specs.Sections.{decodeAt, decodeFrom, decode, sectionRead}
+use Rattle.records.specs.Sections.{decodeAt, decodeFrom, decode}
 use Rattle.records.specs.declared.record.StoredSection.{StoredSection}
 use Rattle.slices.specs.Over.{over}
 use Rattle.slices.proofs.Over.{length-over}
-use Rattle.slices.proofs.Tests.{cond-case}
+use Rattle.slices.proofs.Tests.{cond-case, and-false}
 use Rattle.layout.specs.Passes.{entry}
+use Rattle.settling.specs.SectionWalk.{backwardWords, valueWords}
 use Rattle.emission.specs.Emission.{opcode, inARow, codeOf}
 use Rattle.slices.proofs.Over.{over-nothing, over-next, over-one}
-use Rattle.assembler.specs.Writing.{Fits, Wrote, wordsBytes, marksOf, valueOf, formBytes, MarksIn}
+use Rattle.assembler.specs.Writing.{Fits, Wrote, wordsBytes, formBytes, WritableReference}
 
 -- ---- one part, and two in a row
 
@@ -106,18 +107,20 @@ module _ (f v : ℕ) where
 
 -- ---- a reference's value
 
-module _ (table : List ℕ) (x : StoredSection) (ok : MarksIn table (marksOf x)) where
-  pub value-one : x .kind ≡ directKind → (x .first < length table) × (entry table (x .first) ≡ valueOf table x)
-  unfolding marksOf
-  value-one k = let t = eq-eqb (x .kind) directKind k in (rw t at ok, rw t)
+module _ (table : List ℕ) (x : StoredSection) (ok : WritableReference table x) where
+  -- a direct one
+  pub value-one : x .kind ≡ directKind → (x .first < length table) × (entry table (x .first) ≡ valueWords table x)
+  unfolding valueWords
+  value-one k = (ok .marks .first (ok .kind), rw (eq-eqb (x .kind) directKind k))
 
+  -- a delta
   pub value-two : (x .kind ≡ directKind → ⊥)
-      → (x .first < length table) × (x .second < length table) × (entry table (x .first) ≤ entry table (x .second)) × (entry table (x .second) - entry table (x .first) ≡ valueOf table x)
-  unfolding marksOf
+      → (x .first < length table) × (x .second < length table) × (entry table (x .first) ≤ entry table (x .second)) × (entry table (x .second) - entry table (x .first) ≡ valueWords table x)
+  unfolding valueWords backwardWords
   value-two n =
-      let t = ne-eqb (x .kind) directKind n in
-      let in-order = rw t at ok in
-      (in-order .0, in-order .1, in-order .2, rw t)
+      let above : directKind < x .kind = omega (arith, ok .kind) in
+      let below = and-false (ltb directKind (x .kind)) (ltb (entry table (x .second)) (entry table (x .first))) (ok .forward) (lt-ltb directKind (x .kind) above) in
+      (ok .marks .first (ok .kind), ok .marks .second above, ltb-false (entry table (x .second)) (entry table (x .first)) below, rw (ne-eqb (x .kind) directKind n))
 
 -- ---- a value
 

@@ -1,24 +1,20 @@
 -- Private to the writer, src/write.rt: what its functions ask and promise. No public contract cites it. They are called after the
 -- settling, which refused all else. Assumes nothing.
-use Prim.Native.Nat.{ℕ, _+_, _%_, _≤_, _<_}
+use Prim.Native.Nat.{ℕ, _+_, _%_, _≤_}
 use mathlib.Core.Path.{_≡_}
-use mathlib.Core.Bool.{cond}
+use mathlib.Core.Bool.{false, cond}
 use mathlib.Core.List.{List, [], _∷_, _++_}
-use lib.Dec.{leb, eqb}
+use lib.Dec.{leb}
 use lib.ListN.{length}
 use Rattle.units.specs.Numbers.{bigEndian}
 use Rattle.units.specs.Form.{countByForm, pushZeroByForm}
-use Rattle.units.specs.declared.MarkReference.{MarkReference}
-use Rattle.units.specs.declared.MarkReference.the-variants.{Direct, Delta}
-use Rattle.units.specs.declared.AsmReference.{AsmReference}
 use Rattle.records.specs.Record.{directKind, readSection, formOf}
 use Rattle.records.specs.Sections.{sectionRead}
 use Rattle.records.specs.declared.record.StoredSection.{StoredSection}
-use Rattle.records.specs.declared.record.AsmSection.the-variants.{MarkRef}
-use Rattle.records.specs.declared.record.SectionRead.the-variants.{Read}
 use Rattle.undamaged.specs.Section.{ReadIn}
 use Rattle.slices.specs.Over.{over}
-use Rattle.layout.specs.Passes.{entry, valueBy}
+use Rattle.layout.specs.Passes.{entry}
+use Rattle.settling.specs.SectionWalk.{MarksIn, backwardWords}
 use Rattle.emission.specs.Emission.{opcode, sectionBytes}
 
 -- there is room in the result for `added` from `at` on
@@ -34,32 +30,19 @@ pub record Wrote (before : List ℕ) (at : ℕ) (added : List ℕ) (next : ℕ) 
 abbrev pub wordsBytes : List ℕ → List ℕ → StoredSection → List ℕ
 wordsBytes table bytes x = sectionBytes (entry table) (sectionRead bytes (readSection x))
 
--- the marks of a reference, from its words
-unfoldable pub marksOf : StoredSection → MarkReference
-marksOf x =
-    cond (eqb (x .kind) directKind)
-    (Direct (record { 0 = x .first }))
-    (Delta (record { start = record { 0 = x .first }; end = record { 0 = x .second } }))
-
--- its value by a table
-abbrev pub valueOf : List ℕ → StoredSection → ℕ
-valueOf table x = valueBy (entry table) (marksOf x)
-
 -- the bytes of a value, by a reference's form
 unfoldable pub formBytes : ℕ → ℕ → List ℕ
 formBytes f v = cond (pushZeroByForm f v) (0x5f ∷ []) (opcode (leb 8 f) (countByForm f v) ++ bigEndian (countByForm f v) v)
 
--- a reference's marks are in the table, and a delta isn't backward
-abbrev pub MarksIn : List ℕ → MarkReference → Type 0
-MarksIn table (Direct m) = m .0 < length table
-MarksIn table (Delta s) = (s .start .0 < length table) × (s .end .0 < length table) × (entry table (s .start .0) ≤ entry table (s .end .0))
-
--- three words of an undamaged store whose marks, if they are a reference, are so
+-- three words of an undamaged store whose marks are in the table, and that aren't a backward delta
 pub record Writable (bytes table : List ℕ) (x : StoredSection) : Type 0 where
   pub here : ReadIn (length bytes) (readSection x)
-  pub marks : (r : AsmReference) → readSection x ≡ Read (MarkRef r) → MarksIn table (r .«mark_ref»)
+  pub marks : MarksIn (length table) x
+  pub forward : backwardWords table x ≡ false
 
--- the words of a reference whose marks are so, its set size at most 4
+-- the words of such a reference, its set size at most 4
 pub record WritableReference (table : List ℕ) (x : StoredSection) : Type 0 where
-  pub marks : MarksIn table (marksOf x)
+  pub kind : directKind ≤ x .kind
+  pub marks : MarksIn (length table) x
+  pub forward : backwardWords table x ≡ false
   pub size : formOf x % 8 ≤ 4

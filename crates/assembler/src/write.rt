@@ -19,8 +19,8 @@ ghost use Rattle.undamaged.specs.Section.{spanBytes, SpanIn};
 ghost use Rattle.slices.specs.Over.{over};
 ghost use Rattle.layout.specs.Passes.{entry};
 ghost use Rattle.emission.specs.Emission.{opcode, codeOf};
-ghost use Rattle.assembler.specs.Writing.{Fits, Wrote, wordsBytes, marksOf, valueOf, formBytes};
-ghost use Rattle.assembler.specs.Writing.{MarksIn, Writable, WritableReference};
+ghost use Rattle.settling.specs.SectionWalk.{valueWords};
+ghost use Rattle.assembler.specs.Writing.{Fits, Wrote, wordsBytes, formBytes, Writable, WritableReference};
 
 // Writes the code of every section, from a position on.
 pub(crate) fn write_code(
@@ -108,10 +108,10 @@ fn write_span(span: BytesSpan, bytes: &[u8], result: &mut [u8], at: usize) -> us
 // Writes a reference: 5f if pushed, unsized and 0, else the opcode if pushed, then the value; the position after it.
 fn write_reference(section: StoredSection, table: &[u32], result: &mut [u8], at: usize) -> usize
     requires { ⌜ WritableReference (now table) section ⌝ }
-    requires { ⌜ Fits (now result) at (formBytes (formOf section) (valueOf (now table) section)) ⌝ }
+    requires { ⌜ Fits (now result) at (formBytes (formOf section) (valueWords (now table) section)) ⌝ }
     ensures { λ n.
         ⌜ Wrote (now (result .entry)) at
-        (formBytes (formOf section) (valueOf (now (table .entry)) section)) n (now (result .exit)) ⌝ }
+        (formBytes (formOf section) (valueWords (now (table .entry)) section)) n (now (result .exit)) ⌝ }
 {
     let value = value_of(section, table);
     let form = form_of(section);
@@ -127,8 +127,8 @@ fn write_reference(section: StoredSection, table: &[u32], result: &mut [u8], at:
 
 // A reference's value by the table.
 fn value_of(section: StoredSection, table: &[u32]) -> u32
-    requires { ⌜ MarksIn (now table) (marksOf section) ⌝ }
-    ensures { λ r. ⌜ r ≡ valueOf (now (table .entry)) section ⌝ }
+    requires { ⌜ WritableReference (now table) section ⌝ }
+    ensures { λ r. ⌜ r ≡ valueWords (now (table .entry)) section ⌝ }
 {
     let first = section.first as usize;
     if section.kind == kind::DIRECT {

@@ -4,7 +4,7 @@
 -- Imports nothing of ours. Assumes nothing.
 use Prim.Native.Nat.{ℕ, zero, suc, _+_, _*_, _-_}
 use mathlib.Core.Bool.{Bool, cond, _&&_, _||_}
-use mathlib.Core.List.{List, [], _∷_}
+use mathlib.Core.List.{List, _∷_}
 use mathlib.Core.Option.{Option, none, some, bind}
 use lib.ListN.{length, getD, set}
 use lib.Dec.{leb, ltb}

@@ -6,7 +6,7 @@ use mathlib.Core.Path.{_≡_}
 use lib.ListN.{length}
 use denote.Ref.{now}
 use Rattle.layout.specs.Passes.{entry}
-use Rattle.assembler.specs.Writing.{valueOf}
+use Rattle.settling.specs.SectionWalk.{valueWords}
 use Rattle.assembler.proofs.Writes.{value-one, value-two}
 use Rattle.assembler.proofs.write.value_of.Statement.{statement}
 use Rattle.assembler.proofs.write.value_of.Tie as tie
@@ -17,13 +17,13 @@ start-of c = c .before .before .before
 -- what is known of a direct reference, and of a delta
 one : (c : tie.Then1)
     → let a = c .before .before .before .args in
-    (a .section .first < length (now (a .table))) × (entry (now (a .table)) (a .section .first) ≡ valueOf (now (a .table)) (a .section))
+    (a .section .first < length (now (a .table))) × (entry (now (a .table)) (a .section .first) ≡ valueWords (now (a .table)) (a .section))
 one c = let s = c .before .before .before in value-one (now (s .args .table)) (s .args .section) (s .pre) (c .if1 .taken)
 
 two : (c : tie.Else1)
     → let x = start-of c .args .section in
     let t = now (start-of c .args .table) in
-    (x .first < length t) × (x .second < length t) × (entry t (x .first) ≤ entry t (x .second)) × (entry t (x .second) - entry t (x .first) ≡ valueOf t x)
+    (x .first < length t) × (x .second < length t) × (entry t (x .first) ≤ entry t (x .second)) × (entry t (x .second) - entry t (x .first) ≡ valueWords t x)
 two c = value-two (now (start-of c .args .table)) (start-of c .args .section) (start-of c .pre) (c .if1 .left)
 
 cast-first : tie.Need-cast-first

@@ -8,8 +8,9 @@ use lib.Dec.{leb}
 use lib.ListN.{length}
 use denote.Ref.{now}
 use Rattle.records.specs.Record.{formOf}
+use Rattle.settling.specs.SectionWalk.{valueWords}
 use Rattle.emission.specs.Emission.{opcode}
-use Rattle.assembler.specs.Writing.{Fits, valueOf, formBytes}
+use Rattle.assembler.specs.Writing.{Fits, formBytes}
 use Rattle.assembler.proofs.Writes.{wrote-is, fits-is, reference-zero, reference-long, reference-written, count-four}
 use Rattle.assembler.proofs.write.write_reference.Statement.{statement}
 use Rattle.assembler.proofs.write.write_reference.Tie as tie
@@ -21,7 +22,7 @@ start-of c = c .before .before .before .before
 -- the reference's bytes, by that form and value
 same : (c : tie.After-form-of)
     → let a = start-of c .args in
-    formBytes (formOf (a .section)) (valueOf (now (a .table)) (a .section)) ≡ formBytes (c .form-of .result) (c .before .value-of .result)
+    formBytes (formOf (a .section)) (valueWords (now (a .table)) (a .section)) ≡ formBytes (c .form-of .result) (c .before .value-of .result)
 same c = ap₂ formBytes (sym (c .form-of .ensures)) (sym (c .before .value-of .ensures))
 
 -- they fit
@@ -36,7 +37,7 @@ four c =
     omega (arith, c .byte-count .ensures, count-four _ (known .before .value-of .result) small)
 
 value-of-requires : tie.Need-value-of-requires
-value-of-requires c κs = c .before .before .pre .0 .marks
+value-of-requires c κs = c .before .before .pre .0
 
 form-of-requires : tie.Need-form-of-requires
 form-of-requires c κs = search needs

@@ -1,6 +1,6 @@
 -- By recursion, as the definition goes. The measure is the number.
 -- Assumes nothing.
-use mathlib.Core.Path.{_≡_, _∙_}
+use mathlib.Core.Path.{_∙_}
 use native.Mathlib.Omega.{arith}
 use Rattle.listing.proofs.Puts.{put-length}
 use Rattle.listing.proofs.Turns.{decimal-one, decimal-then, decimal-room-one, decimal-room-first, decimal-room-last}
