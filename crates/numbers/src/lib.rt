@@ -9,7 +9,7 @@ pub use form::is_form;
 use records::Assembler;
 use units::Refusal;
 ghost use mathlib.Core.Path.{_≡_};
-ghost use Rattle.numbers.specs.Numbers.{packed, countsIn, stateNumber, refusalNumber};
+ghost use Rattle.numbers.specs.Numbers.{countsIn, stateNumber, refusalNumber};
 
 // One section more, as a state.
 pub const SECTION: u64 = 0x1_0000_0000;
@@ -37,14 +37,7 @@ pub fn state_of(counts: Assembler) -> u64
     (counts.sections as u64) * SECTION + (counts.bytes as u64)
 }
 
-// A refusal without passes.
-pub fn refused_at(number: u8, section: u32) -> u64
-    ensures { λ r. ⌜ r ≡ packed number 0 section ⌝ }
-{
-    (number as u64) * NUMBER + (section as u64)
-}
-
-// Any refusal.
+// A refusal.
 pub fn refusal_number(refusal: Refusal) -> u64
     ensures { λ r. ⌜ r ≡ refusalNumber refusal ⌝ }
 {

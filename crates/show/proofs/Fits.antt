@@ -9,7 +9,7 @@ use lib.ListN.{length}
 use lib.Dec.{ltb}
 use borrow.Author.Tests.{ltb-false}
 use Rattle.units.specs.Replies.{listingFull}
-use Rattle.units.specs.Reply.{accepted, refused}
+use Rattle.units.specs.Reply.{Reply, accepted, refused}
 use Rattle.records.specs.Store.{Store}
 use Rattle.records.specs.Damage.{wholeSoundness}
 use Rattle.records.specs.Sections.{decode}
@@ -19,7 +19,7 @@ use Rattle.listing.specs.Listing.{listing}
 use Rattle.listing.specs.Answer.{replyFor, listingReply}
 
 -- by the test for 14: k is the text's length and m the buffer's
-by-test : (b : Bool) (m k n : ℕ) → ltb m k ≡ b → accepted n ≡ cond b (refused listingFull 0 0) (accepted k) → n ≤ m
+by-test : (b : Bool) (m k n : ℕ) → ltb m k ≡ b → _≡_ {A = Reply ℕ} (accepted n) (cond b (refused listingFull 0 0) (accepted k)) → n ≤ m
 by-test true m k n t e = let z : _≡_ {A = ℕ} 0 1 = cc in omega arith
 by-test false m k n t e = let z : n ≡ k = cc in omega (arith, ltb-false m k t)
 
