@@ -2,7 +2,7 @@
 -- Assumes nothing.
 use Prim.Native.Nat.{ℕ}
 use mathlib.Core.Path.{_≡_, sym, ap, _∙_}
-use lib.ListN.{length, replicate}
+use lib.ListN.{replicate}
 use borrow.Author.Needs.{needs}
 use denote.Ref.{now}
 use Rattle.records.specs.Store.{Store, storeOf, wordsPerSection}
@@ -10,7 +10,7 @@ use Rattle.records.specs.Sections.{decode}
 use Rattle.records.specs.Damage.{wholeSoundness}
 use Rattle.layout.specs.Answer.{answer, answerReply, answerTable}
 use Rattle.settling.specs.Settle.{Settlement}
-use Rattle.settling.proofs.Compose.{settles-as}
+use Rattle.settling.proofs.SettleAnswers.{settles-as}
 use Rattle.settling.proofs.settle.Statement.{statement}
 use Rattle.settling.proofs.settle.Tie as tie
 

@@ -12,7 +12,7 @@ use Rattle.records.specs.Sections.{Section}
 use Rattle.layout.specs.Passes.{Settling, settle}
 use Rattle.settling.specs.SectionWalk.{sectionsOf, Fitting, passesReply, passesTable}
 use Rattle.settling.proofs.Sections.{decode-count}
-use Rattle.settling.proofs.Compose.{settle-is, placed-refused, placed-backward, placed-done}
+use Rattle.settling.proofs.SettleAnswers.{settle-is, placed-refused, placed-backward, placed-done}
 use Rattle.settling.proofs.settle_placed.Statement.{statement}
 use Rattle.settling.proofs.settle_placed.Tie as tie
 

@@ -1,6 +1,6 @@
 -- 7, 8 and 9 by the first sections that the searches found, then the settling. The table is 0 again before 8 and 9 are answered.
 -- Assumes nothing.
-use Prim.Native.Nat.{ℕ, _≤_, _<_}
+use Prim.Native.Nat.{ℕ, _<_}
 use native.Mathlib.Omega.{arith}
 use mathlib.Core.Path.{_≡_, sym, ap, _∙_, subst}
 use mathlib.Core.List.{List}
@@ -16,7 +16,7 @@ use Rattle.layout.proofs.Least.{none-found}
 use Rattle.layout.proofs.Answers.{short-law, unplaced-law, apart-law}
 use Rattle.settling.specs.SectionWalk.{sectionsOf, Fitting, firstSums}
 use Rattle.settling.proofs.Sections.{decode-count}
-use Rattle.settling.proofs.Compose.{answers-said, answers-sound}
+use Rattle.settling.proofs.SettleAnswers.{answers-said, answers-sound}
 use Rattle.settling.proofs.settle_whole.Statement.{statement}
 use Rattle.settling.proofs.settle_whole.Tie as tie
 
