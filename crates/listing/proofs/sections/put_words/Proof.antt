@@ -67,7 +67,6 @@ returns-3 c =
     let start = at-kind (is-data .before .before .before .before .before) in
     put-is (sym (text-data _ _ (start .pre .0) (is-data .if3 .taken) .1)) (put .put-data-line .ensures)
 
--- a kind that is none of these is a reference's
 abbrev start-of : tie.Else3 → tie.Start
 start-of c = at-kind (c .before .before .before .before .before)
 
@@ -75,6 +74,7 @@ start-of c = at-kind (c .before .before .before .before .before)
 abbrev read-of : tie.After-section → tie.After-read-section
 read-of c = c .before .before .before .before .before
 
+-- a kind that is none of these is a reference's
 others : (c : tie.Else3) → directKind ≤ start-of c .args .section .kind
 others c = omega (arith, c .if3 .left, c .before .before .if2 .left, c .before .before .before .before .if1 .left)
 
