@@ -18,7 +18,7 @@ use Rattle.layout.specs.Answer.{Answer, laidOut, noLayout, answer, Says}
 use Rattle.layout.proofs.Answers.{settle-law, answer-law}
 use Rattle.layout.proofs.Moves.{Still}
 use Rattle.layout.proofs.Rule.{Sizes}
-use Rattle.layout.proofs.Today.{today}
+use Rattle.layout.proofs.WidthRule.{widthRule}
 use Rattle.undamaged.specs.View.{Undamaged, Facts}
 use Rattle.undamaged.proofs.Soundness.{undamaged-iff}
 use Rattle.undamaged.proofs.Sections.{section-held}
@@ -80,7 +80,7 @@ pub record LaidFacts (w n : ℕ) (st : Store) (table : List ℕ) (size k : ℕ) 
   pub says : Says n (decode w st) (laidOut table size k)
   pub settles : settle n (decode w st) ≡ settled table size k
   pub long : length table ≡ n
-  pub still : Still (Sizes today) (decode w st) 0 (entry table) size
+  pub still : Still (Sizes widthRule) (decode w st) 0 (entry table) size
   -- the length answered is the code's
   pub codeLong : length (codeOf (entry table) (decode w st)) ≡ size
   pub writable : (i : ℕ) → i < st .sections → Writable (st .bytes) table (sectionWords w st i)

@@ -15,7 +15,7 @@ use Rattle.records.specs.Sections.{decode}
 use Rattle.slices.specs.Over.{over}
 use Rattle.layout.specs.Passes.{entry}
 use Rattle.layout.specs.Answer.{Laid}
-use Rattle.layout.proofs.Moves.{or-false}
+use Rattle.slices.proofs.Tests.{or-false}
 use Rattle.settling.specs.Settle.{Settlement, settling}
 use Rattle.emission.specs.Emission.{codeOf}
 use Rattle.assembler.specs.Assemble.{written, Outcome, refusal, isFull, writing, assembly}

@@ -15,7 +15,7 @@ use Rattle.records.specs.Sections.{Section, mark, ops, bytes, reference}
 use Rattle.slices.specs.First.{leastFrom}
 use Rattle.layout.specs.Conditions.{sectionAt, someBelow, placesSome, placed, hasBytes, someBytes, bytesBetween, apartAt, sumOf}
 use Rattle.layout.proofs.Moves.{widthBy}
-use Rattle.layout.proofs.Today.{least-pos}
+use Rattle.layout.proofs.WidthRule.{least-pos}
 use Rattle.slices.proofs.First.{leastFrom-least}
 use Rattle.layout.proofs.Least.{none-below}
 

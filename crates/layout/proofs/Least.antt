@@ -32,8 +32,12 @@ module _ (ss : List Section) (test : ℕ → Bool) where
   never-law = (λ e i l. found .none i (omega arith) (omega arith), λ h. sym (search-done test (length ss) (length ss) h (omega arith) (omega arith)))
 
   -- the first is not below the length
-  pub none-first : length ss ≤ first ss test → Never ss test
+  none-first : length ss ≤ first ss test → Never ss test
   none-first l = never-law .0 (omega (arith, found .within))
+
+  -- so where a search over k sections found none
+  pub none-found : (i k : ℕ) → i ≡ first ss test → length ss ≡ k → k ≤ i → Never ss test
+  none-found i k e d l = none-first (omega arith)
 
   -- there is a first, or none
   pub first-or-never : ((i : ℕ) × IsFirst ss test i) ⊎ Never ss test

@@ -23,9 +23,10 @@ use Rattle.layout.specs.Conditions.{sectionAt, IsFirst, Never, placesSome, some
 use Rattle.layout.specs.Answer.{laidOut, refused, answer, Says, Sound}
 use Rattle.layout.proofs.Answers.{settle-law, answer-law}
 use Rattle.layout.proofs.Least.{first-or-never}
-use Rattle.layout.proofs.Moves.{Still, or-false}
+use Rattle.layout.proofs.Moves.{Still}
+use Rattle.slices.proofs.Tests.{or-false}
 use Rattle.layout.proofs.Rule.{Sizes}
-use Rattle.layout.proofs.Today.{today}
+use Rattle.layout.proofs.WidthRule.{widthRule}
 use Rattle.layout.proofs.Walks.{All}
 use Rattle.layout.proofs.Premises.{all-at}
 use Rattle.layout.proofs.Apart.{placed-law}
@@ -91,7 +92,7 @@ below-length n ss h m p =
 -- ---- by the Rust's table and by the lent one
 
 -- a settled table gives every reference room
-still-ready : (t : List ℕ) (ss : List Section) (s e : ℕ) → Still (Sizes today) ss s (entry t) e → All (Ready t) ss
+still-ready : (t : List ℕ) (ss : List Section) (s e : ℕ) → Still (Sizes widthRule) ss s (entry t) e → All (Ready t) ss
 still-ready t [] s e h = tt
 still-ready t (mark m ∷ ss) s e h = (tt, still-ready t ss s e (h .1))
 still-ready t (ops x ∷ ss) s e h = (tt, still-ready t ss (s + length x) e h)
@@ -179,7 +180,7 @@ module _
 
     module _ (T t : List ℕ) (e e′ k k′ : ℕ) (byOwn : settle own ss ≡ settled T e k) (byLent : settle lent ss ≡ settled t e′ k′) (alike : Alike (placed ss) T t) where
       -- the Rust's table, and that each reference has room by it
-      own-still : (length T ≡ own) × Still (Sizes today) ss 0 (entry T) e
+      own-still : (length T ≡ own) × Still (Sizes widthRule) ss 0 (entry T) e
       own-still = settled-still own ss T e k (none-short own ss (given .marksPlaced) (given .grown)) byOwn
 
       in-map : EveryMap (length T) rs

@@ -18,7 +18,8 @@ use Rattle.records.specs.declared.record.StoredSection.{StoredSection}
 use Rattle.layout.specs.Passes.{entry}
 use Rattle.layout.specs.Conditions.{sectionAt, sumOf, Never, someBelow, placesSome, someMark, namesSome, placed, shortAt, unplacedAt, firstUnplaced, bytesBetween, apartAt}
 use Rattle.layout.proofs.Least.{none-below, never-law}
-use Rattle.layout.proofs.Moves.{widthBy, or-false}
+use Rattle.layout.proofs.Moves.{widthBy}
+use Rattle.slices.proofs.Tests.{or-false}
 use Rattle.layout.proofs.Apart.{leastBefore, placed-law, ApartBySums, apart-sums}
 use Rattle.settling.specs.SectionWalk.{unplacedWords, placeMark, placeFrom, firstSums, allPlaced}
 use Rattle.settling.proofs.SectionWords.{NotMark, unplaced-words}

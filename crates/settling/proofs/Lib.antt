@@ -3,4 +3,4 @@ pub mod Sections
 pub mod Turns
 pub mod FirstPlacings
 pub mod StartTable
-pub mod Compose
+pub mod SettleAnswers

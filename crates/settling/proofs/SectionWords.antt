@@ -8,9 +8,9 @@ use mathlib.Mathlib.Data.Bool.Basic.{or-eq-false-eq-eq-false-and-eq-false as bot
 use lib.Dec.{leb, ltb, eqb}
 use lib.ListN.{length}
 use lib.Seq.{length-slice}
-use borrow.Author.Tests.{leb-false, eq-eqb, ne-eqb, lt-ltb, le-ltb, le-leb, lt-leb}
+use borrow.Author.Tests.{leb-false, eq-eqb, ne-eqb, lt-ltb, le-ltb, le-leb}
 use Rattle.units.specs.Reference.{leastSize, sizeFor}
-use Rattle.units.specs.Form.{formNumber, leastByForm, sizeByForm}
+use Rattle.units.specs.Form.{formNumber, leastByForm}
 use Rattle.units.proofs.Forms.{least-form, size-form}
 use Rattle.units.specs.declared.SetSize.{SetSize}
 use Rattle.units.specs.declared.SizeFor.{SizeFor}

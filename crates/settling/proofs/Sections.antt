@@ -15,7 +15,7 @@ use Rattle.units.proofs.Forms.{size-found}
 use Rattle.units.specs.declared.AsmReference.{AsmReference}
 use Rattle.units.specs.declared.SizeFor.the-variants.{Bytes}
 use Rattle.records.specs.Record.{opsKind, dataKind}
-use Rattle.records.specs.Store.{Store, storeOf, wordsPerSection, maxBytes, maxSections, wordsAt, sectionWords}
+use Rattle.records.specs.Store.{Store, storeOf, wordsPerSection, wordsAt, sectionWords}
 use Rattle.records.specs.Damage.{isSpan, endBefore}
 use Rattle.records.specs.Sections.{Section, mark, ops, bytes, reference, decodeAt, decodeFrom, decode}
 use Rattle.records.specs.declared.Assembler.{Assembler}
@@ -27,7 +27,7 @@ use Rattle.layout.specs.Passes.{valueBy}
 use Rattle.layout.specs.Conditions.{sectionAt, sumOf, storedIn, shortAt, backwardAt}
 use Rattle.layout.proofs.Moves.{widthBy}
 use Rattle.layout.proofs.Apart.{leastBefore}
-use Rattle.layout.proofs.Today.{today, size-five}
+use Rattle.layout.proofs.WidthRule.{widthRule, size-five}
 use Rattle.settling.specs.SectionWalk.{sectionsOf, Whole, Fitting, shortWords, MarksIn, backwardWords}
 use Rattle.settling.proofs.SectionWords.{Words, mark-words, ops-words, data-words, direct-words, delta-words, words-read, sizeSection, short-words, backward-words, marks-in}
 
@@ -126,11 +126,11 @@ least-next ss i l = sum-next (widthBy leastSize) ss i l
 
 -- no size is above 5
 pub size-small : (r : AsmReference) (v : ℕ) → size r v ≤ 5
-size-small r v = omega (arith, today .at-most r v, size-five r)
+size-small r v = omega (arith, widthRule .at-most r v, size-five r)
 
 -- nor is a least size
 pub least-small : (r : AsmReference) → leastSize r ≤ 5
-least-small r = omega (arith, today .at-least r 0, size-small r 0)
+least-small r = omega (arith, widthRule .at-least r 0, size-small r 0)
 
 -- a sum of sizes before section i: at most the stored bytes before it and five bytes for each section
 abbrev pub Room : List Section → ℕ → ℕ → Type 0

@@ -4,11 +4,11 @@ use Prim.Native.Nat.{ℕ, suc, _+_, _-_, _≤_, _<_}
 use native.Mathlib.Numerals.{add-one}
 use native.Mathlib.Omega.{arith}
 use mathlib.Core.Path.{_≡_, refl, sym, ap, ap₂, _∙_}
-use mathlib.Core.Bool.{Bool, true, false, cond, _||_}
+use mathlib.Core.Bool.{Bool, true, false, _||_}
 use mathlib.Core.List.{List, [], _∷_}
 use lib.ListN.{length, set, drop, replicate, drop-of-length-le}
 use lib.Seq.{drop-cons}
-use Rattle.units.specs.Reference.{leastSize, size, tooNarrow}
+use Rattle.units.specs.Reference.{leastSize}
 use Rattle.units.specs.declared.SizeFor.the-variants.{Bytes, TooNarrow}
 use Rattle.units.proofs.Forms.{size-found, narrow-found}
 use Rattle.records.specs.Sections.{Section, mark, ops, bytes, reference}

@@ -17,8 +17,9 @@ use Rattle.records.specs.Sections.{Section, mark, ops, bytes, reference, decode
 use Rattle.records.specs.declared.Assembler.{Assembler}
 use Rattle.records.specs.declared.record.StoredSection.{StoredSection}
 use Rattle.undamaged.specs.View.{Undamaged}
-use Rattle.layout.specs.Passes.{entry, Settling, settled, narrowAt, unsettled}
+use Rattle.layout.specs.Passes.{entry, Settling, settled, narrowAt, unsettled, settle}
 use Rattle.layout.specs.Conditions.{Never, someBelow, shortAt}
+use Rattle.layout.specs.Answer.{Answer, settlingAnswer}
 use Rattle.settling.specs.declared.Settled.{Settled}
 use Rattle.settling.specs.declared.Settled.the-variants.{LaidOut, Refused}
 
@@ -99,6 +100,10 @@ lessOne [] = []
 lessOne (x ∷ xs) = (x - 1) ∷ lessOne xs
 
 -- ---- the passes
+
+-- what a list answers where 7, 8 and 9 don't hold
+abbrev pub settledAnswer : ℕ → List Section → Answer
+settledAnswer n ss = settlingAnswer ss (settle n ss)
 
 -- what they answer, 12 left out
 abbrev pub passesReply : Settling → Settled

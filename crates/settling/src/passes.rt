@@ -23,8 +23,13 @@ pub(crate) fn run_passes(
     table: &mut [u32],
 ) -> Settled
     requires { ⌜ Fitting store (now bytes) (now words) (length (now table)) ⌝ }
-    ensures reply { λ r. ⌜ r ≡ passesReply (passes maxPasses 1 (sectionsOf store (now (bytes .entry)) (now (words .entry))) (now (table .entry))) ⌝ }
-    ensures table { λ _. ⌜ now (table .exit) ≡ passesTable (length (now (table .entry))) (passes maxPasses 1 (sectionsOf store (now (bytes .entry)) (now (words .entry))) (now (table .entry))) ⌝ }
+    ensures reply { λ r.
+        ⌜ r
+        ≡ passesReply (passes maxPasses 1 (sectionsOf store (now (bytes .entry)) (now (words .entry))) (now (table .entry))) ⌝ }
+    ensures table { λ _.
+        ⌜ now (table .exit)
+        ≡ passesTable (length (now (table .entry)))
+        (passes maxPasses 1 (sectionsOf store (now (bytes .entry)) (now (words .entry))) (now (table .entry))) ⌝ }
 {
     let mut k: u32 = 1;
     let mut refusal = Refusal::Unsettled;

@@ -55,8 +55,13 @@ pub(crate) fn place(store: Assembler, bytes: &[u8], words: &[u32], table: &mut [
     requires { ⌜ Fitting store (now bytes) (now words) (length (now table)) ⌝ }
     requires { ⌜ now table ≡ replicate (length (now table)) 0 ⌝ }
     ensures apart { λ r. ⌜ r ≡ firstApart (sectionsOf store (now (bytes .entry)) (now (words .entry))) ⌝ }
-    ensures table { λ _. ⌜ now (table .exit) ≡ firstSums (length (now (table .entry))) (sectionsOf store (now (bytes .entry)) (now (words .entry))) ⌝ }
-    ensures started { λ r. ⌜ (store .sections ≤ r → lessOne (now (table .exit)) ≡ start (length (now (table .entry))) (sectionsOf store (now (bytes .entry)) (now (words .entry)))) ⌝ }
+    ensures table { λ _.
+        ⌜ now (table .exit)
+        ≡ firstSums (length (now (table .entry))) (sectionsOf store (now (bytes .entry)) (now (words .entry))) ⌝ }
+    ensures started { λ r.
+        ⌜ (store .sections ≤ r
+        → lessOne (now (table .exit))
+        ≡ start (length (now (table .entry))) (sectionsOf store (now (bytes .entry)) (now (words .entry)))) ⌝ }
 {
     let mut i: u32 = 0;
     let mut sum: u32 = 0;

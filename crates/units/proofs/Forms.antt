@@ -2,7 +2,7 @@
 use Prim.Native.Nat.{ℕ, _+_, _%_, _/_, _≤_}
 use native.Mathlib.Omega.{arith}
 use native.Mathlib.Nat.{add-zero}
-use mathlib.Core.Path.{_≡_, refl, ap}
+use mathlib.Core.Path.{_≡_, refl}
 use mathlib.Core.Bool.{Bool, true, false, cond}
 use lib.Dec.{eqb, ltb}
 use borrow.Author.Tests.{eqb-true, ne-eqb}
@@ -14,7 +14,6 @@ use Rattle.units.specs.declared.RefSize.the-variants.{S1, S2, S3, S4}
 use Rattle.units.specs.declared.SetSize.{SetSize}
 use Rattle.units.specs.declared.SetSize.the-variants.{Unsized, Sized}
 use Rattle.units.specs.declared.AsmReference.{AsmReference}
-use Rattle.units.specs.declared.SizeFor.{SizeFor}
 use Rattle.units.specs.declared.SizeFor.the-variants.{Bytes, TooNarrow}
 
 -- a set size is 1 to 4

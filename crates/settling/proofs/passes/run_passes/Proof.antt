@@ -13,7 +13,6 @@ use Rattle.units.specs.Replies.{maxPasses}
 use Rattle.units.specs.declared.reply.Refusal.{Refusal}
 use Rattle.records.specs.Store.{storeOf, wordsPerSection}
 use Rattle.records.specs.Sections.{Section}
-use Rattle.records.specs.declared.record.StoredSection.{StoredSection}
 use Rattle.layout.specs.Passes.{Settling, walkFrom, pass, passes}
 use Rattle.settling.specs.SectionWalk.{sectionsOf, MarksIn, passesReply, passesTable}
 use Rattle.settling.specs.declared.Settled.the-variants.{Refused}

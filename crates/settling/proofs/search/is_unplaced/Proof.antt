@@ -43,22 +43,27 @@ cast-result c = search needs
 mul-result : tie.Need-mul-result
 mul-result c = search needs
 
+-- the first test and the entry, seen from the last test
+abbrev at-if1 : tie.Else3 → tie.Else1
+at-if1 c = c .before .before .before .before .before
+
+abbrev entry : tie.Else3 → tie.Start
+entry c = at-if1 c .before .before
+
 -- a delta, where the second entry is read
-is-delta : (c : tie.Else3) → directKind < c .before .before .before .before .before .before .before .args .section .kind
-is-delta c = omega (arith, c .if3 .left, c .before .before .before .before .before .if1 .left)
+is-delta : (c : tie.Else3) → directKind < entry c .args .section .kind
+is-delta c = omega (arith, c .if3 .left, at-if1 c .if1 .left)
 
 shared-slice-read-result : tie.Need-shared-slice-read-result
 shared-slice-read-result c =
     let at-if3 = c .before .before in
-    at-if3 .before .before .before .before .before .before .before .pre .second (is-delta at-if3)
+    entry at-if3 .pre .second (is-delta at-if3)
 
 returns-4 : tie.Need-returns-4
 unfolding unplacedWords
 returns-4 c =
     let at-if3 = c .before .before in
-    let at-if2 = at-if3 .before .before in
-    let at-if1 = at-if2 .before .before .before in
-    rw (le-leb _ _ (at-if1 .if1 .left), ne-eqb _ _ (at-if2 .if2 .left), lt-ltb _ _ (is-delta at-if3))
+    rw (le-leb _ _ (at-if1 at-if3 .if1 .left), ne-eqb _ _ (at-if3 .before .before .if2 .left), lt-ltb _ _ (is-delta at-if3))
 
 pub is-unplaced-spec : {M : Type 1} → statement M
 is-unplaced-spec =

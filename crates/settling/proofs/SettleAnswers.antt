@@ -1,23 +1,22 @@
 -- How the searches and the passes make the answer: one law for each way that the code goes, on plain variables. Assumes nothing.
 use Prim.Native.Nat.{ℕ, _≤_, _<_}
 use native.Mathlib.Omega.{arith}
-use mathlib.Core.Path.{_≡_, refl, sym, ap, ap₂, _∙_, subst}
+use mathlib.Core.Path.{_≡_, sym, ap, _∙_, subst}
 use mathlib.Core.List.{List}
 use lib.ListN.{length, replicate}
 use borrow.Author.Tests.{lt-ltb, le-ltb}
-use Rattle.units.specs.Replies.{maxPasses, damaged}
-use Rattle.units.specs.Reply.{Reply, refused, numbersReply}
+use Rattle.units.specs.Replies.{maxPasses}
+use Rattle.units.specs.Reply.{Reply, numbersReply}
 use Rattle.units.specs.declared.reply.Refusal.{Refusal}
 use Rattle.records.specs.Store.{Store}
 use Rattle.records.specs.Damage.{wholeSoundness}
 use Rattle.records.specs.Sections.{Section, decode}
 use Rattle.records.specs.declared.damage.Soundness.{Soundness}
-use Rattle.records.specs.declared.damage.Soundness.the-variants.{Sound, Damaged}
 use Rattle.layout.specs.Passes.{start, Settling, settled, narrowAt, unsettled, passes, settle}
-use Rattle.layout.specs.Conditions.{Never, shortAt, firstShort, firstUnplaced, firstApart, firstBackward}
-use Rattle.layout.proofs.Least.{none-first}
-use Rattle.layout.specs.Answer.{LayoutRefusal, shortTable, unplaced, placedApart, backward, layoutNumbers, Laid}
-use Rattle.layout.specs.Answer.{Answer, laidOut, noLayout, orElse, settlingAnswer, answer, answerReply, answerTable}
+use Rattle.layout.specs.Conditions.{firstBackward}
+use Rattle.layout.specs.Answer.{LayoutRefusal, backward, Answer, noLayout, settlingAnswer, answer, Sound, Says}
+use Rattle.layout.specs.Answer.{layoutNumbers, Laid, answerReply, answerTable}
+use Rattle.layout.proofs.Answers.{sound-answer, answer-law}
 use Rattle.settling.specs.SectionWalk.{passesReply, passesTable}
 use Rattle.settling.specs.Settle.{settlement, settling, settledReply}
 use Rattle.settling.specs.declared.Settled.{Settled}
@@ -32,9 +31,15 @@ pub answers-refused : (n : ℕ) (a : Answer) (r : LayoutRefusal) (table : List �
     → Answers n a (numbersReply (layoutNumbers r)) table
 answers-refused n a r table e h = (ap answerReply (sym e), h ∙ ap (answerTable n) (sym e))
 
--- the same answer
-pub answers-same : (n : ℕ) (a b : Answer) (reply : Reply Laid) (table : List ℕ) → a ≡ b → Answers n b reply table → Answers n a reply table
-answers-same n a b reply table e h = subst (λ (x : Answer). Answers n x reply table) (sym e) h
+-- so where the condition of a refusal holds
+pub answers-said : (n : ℕ) (ss : List Section) (r : LayoutRefusal) (table : List ℕ) → Says n ss (noLayout r) → table ≡ replicate n 0
+    → Answers n (answer n ss) (numbersReply (layoutNumbers r)) table
+answers-said n ss r table says h = answers-refused n (answer n ss) r table (answer-law n ss (noLayout r) .1 says) h
+
+-- and where 7, 8 and 9 don't hold, what the settling answers
+pub answers-sound : (n : ℕ) (ss : List Section) (reply : Reply Laid) (table : List ℕ) → Sound n ss → Answers n (settlingAnswer ss (settle n ss)) reply table
+    → Answers n (answer n ss) reply table
+answers-sound n ss reply table sound h = subst (λ (a : Answer). Answers n a reply table) (sym (sound-answer n ss sound)) h
 
 -- ---- 12
 
@@ -71,59 +76,9 @@ module _ (n : ℕ) (ss : List Section) (reply : Settled) (table : List ℕ) wher
   placed-done (narrowAt i j) l k b replied left e h more = let z : _≡_ {A = ℕ} 0 1 = cc in absurd (omega arith)
   placed-done unsettled l k b replied left e h more = let z : _≡_ {A = ℕ} 0 1 = cc in absurd (omega arith)
 
--- ---- 7, 8, 9
-
--- a first section that there is
-or-hit : (ss : List Section) (i j : ℕ) (refusal : ℕ → LayoutRefusal) (next : Answer) → i ≡ j → i < length ss → orElse ss j refusal next ≡ noLayout (refusal i)
-or-hit ss i j refusal next e l = rw (← e, lt-ltb i (length ss) l)
-
--- one that there isn't
-or-miss : (ss : List Section) (i j : ℕ) (refusal : ℕ → LayoutRefusal) (next : Answer) → i ≡ j → length ss ≤ i → orElse ss j refusal next ≡ next
-or-miss ss i j refusal next e l = rw (← e, le-ltb i (length ss) l)
-
-module _ (n : ℕ) (ss : List Section) (short : ℕ) (is-short : short ≡ firstShort n ss) where
-  -- 7
-  pub whole-short : short < length ss → answer n ss ≡ noLayout (shortTable short)
-  unfolding answer
-  whole-short l = or-hit ss short (firstShort n ss) shortTable _ is-short l
-
-  -- no 7
-  pub none-short : length ss ≤ short → Never ss (shortAt n ss)
-  unfolding firstShort
-  none-short l = none-first ss (shortAt n ss) (omega (arith, is-short))
-
-  module _ (no-short : length ss ≤ short) (found : ℕ) (is-unplaced : found ≡ firstUnplaced ss) where
-    -- 8
-    pub whole-unplaced : found < length ss → answer n ss ≡ noLayout (unplaced found)
-    unfolding answer
-    whole-unplaced l =
-        or-miss ss short (firstShort n ss) shortTable _ is-short no-short ∙ or-hit ss found (firstUnplaced ss) unplaced _ is-unplaced l
-
-    module _ (no-unplaced : length ss ≤ found) (apart : ℕ) (is-apart : apart ≡ firstApart ss) where
-      -- 9
-      pub whole-apart : apart < length ss → answer n ss ≡ noLayout (placedApart apart)
-      unfolding answer
-      whole-apart l =
-          or-miss ss short (firstShort n ss) shortTable _ is-short no-short
-          ∙ or-miss ss found (firstUnplaced ss) unplaced _ is-unplaced no-unplaced
-          ∙ or-hit ss apart (firstApart ss) placedApart _ is-apart l
-
-      -- none of the three
-      pub whole-on : length ss ≤ apart → answer n ss ≡ settlingAnswer ss (settle n ss)
-      unfolding answer
-      whole-on l =
-          or-miss ss short (firstShort n ss) shortTable _ is-short no-short
-          ∙ or-miss ss found (firstUnplaced ss) unplaced _ is-unplaced no-unplaced
-          ∙ or-miss ss apart (firstApart ss) placedApart _ is-apart l
-
 -- ---- 6
 
-module _ (w n : ℕ) (st : Store) (found : Soundness) (is : found ≡ wholeSoundness w st) where
-  pub settle-damaged : (i : ℕ) → found ≡ Damaged i → settling w n st ≡ record { reply = refused damaged i 0; table = replicate n 0 }
-  unfolding settling
-  settle-damaged i e = ap (λ (x : Soundness). settlement n x (answer n (decode w st))) (sym is ∙ e)
-
-  pub settle-sound : found ≡ Sound
-      → settling w n st ≡ record { reply = answerReply (answer n (decode w st)); table = answerTable n (answer n (decode w st)) }
-  unfolding settling
-  settle-sound e = ap (λ (x : Soundness). settlement n x (answer n (decode w st))) (sym is ∙ e)
+-- by what the test for it found
+pub settles-as : (w n : ℕ) (st : Store) (s : Soundness) → wholeSoundness w st ≡ s → settling w n st ≡ settlement n s (answer n (decode w st))
+unfolding settling
+settles-as w n st s e = ap (λ (x : Soundness). settlement n x (answer n (decode w st))) e

@@ -1,4 +1,4 @@
--- Today's width rule as a rule of the theory, and that a size with room holds its value below 2^32. Assumes nothing.
+-- Document 01's width rule as a rule of the theory, and that a size with room holds its value below 2^32. Assumes nothing.
 use Prim.Native.Nat.{ℕ, _+_, _-_, _^_, _≤_, _<_}
 use native.Mathlib.Omega.{arith}
 use native.Mathlib.Nat.{lt-of-lt-of-le}
@@ -11,12 +11,10 @@ use Rattle.units.specs.Numbers.{heldBytes}
 use Rattle.units.specs.Reference.{refSizeBytes, least, width, narrow, leastSize, size, tooNarrow}
 use Rattle.units.specs.declared.SetSize.{SetSize}
 use Rattle.units.specs.declared.SetSize.the-variants.{Unsized, Sized}
-use Rattle.units.specs.declared.RefSize.{RefSize}
-use Rattle.units.specs.declared.RefSize.the-variants.{S1, S2, S3, S4}
 use Rattle.units.specs.declared.AsmReference.{AsmReference}
 use Rattle.units.proofs.Held.{held-1, held-2, held-3, held-4, held-le, by-range, held-power}
 use Rattle.units.proofs.BigEndian.{pow256-mono}
-use Rattle.units.proofs.Forms.{refSize-le}
+use Rattle.units.proofs.Forms.{refSize-pos, refSize-le}
 use Rattle.layout.specs.Layout.{HoldsIn}
 use Rattle.layout.proofs.Rule.{Rule}
 
@@ -25,13 +23,6 @@ abbrev pub growth : SetSize → Bool → ℕ
 growth (Sized s) p = 0
 growth Unsized true = 4
 growth Unsized false = 3
-
--- a set size is at least 1
-refSize-pos : (s : RefSize) → 1 ≤ refSizeBytes s
-refSize-pos S1 = omega arith
-refSize-pos S2 = omega arith
-refSize-pos S3 = omega arith
-refSize-pos S4 = omega arith
 
 -- held bytes below each of the bounds
 abbrev Ranges : ℕ → Type 0
@@ -183,9 +174,9 @@ least-pos r = go (r .«set_size») (r .pushed)
     go (Sized s) p = omega (arith, refSize-pos s)
     go Unsized p = omega arith
 
--- today's rule
-abbrev pub today : Rule
-today =
+-- the rule
+abbrev pub widthRule : Rule
+widthRule =
     record {
       least = leastSize;
       size = size;
