@@ -1,5 +1,5 @@
 -- Document 01, 'Replies': the condition of each answer of assembly, 6 to 13. 'Each number comes in its stated condition and in no other':
--- that it is given exactly then is `assembly-law` of proofs/Answers. Assumes nothing.
+-- that it is given exactly then is `assembly-law` of proofs/AssemblyAnswers. Assumes nothing.
 use Prim.Native.Nat.{ℕ, _+_, _≤_, _<_}
 use mathlib.Core.Path.{_≡_}
 use mathlib.Core.Bool.{true, false}

@@ -18,7 +18,7 @@ use Rattle.layout.specs.Answer as layout
 use Rattle.layout.proofs.Answers.{answer-law}
 use Rattle.settling.specs.Settle.{Settlement, settlement, settling}
 use Rattle.assembler.specs.Assemble.{Outcome, isFull, assembly}
-use Rattle.assembler.specs.Answers.{AssemblyAnswer, written, damaged, noLayout, resultFull, assemblyReply, AnswerSays}
+use Rattle.assembler.specs.AssemblyAnswers.{AssemblyAnswer, written, damaged, noLayout, resultFull, assemblyReply, AnswerSays}
 use Rattle.assembler.proofs.Outcomes.{outcome-refused, outcome-full, outcome-written, fits-law, full-law}
 use Rattle.assembler.proofs.Laid.{sound-settles}
 
