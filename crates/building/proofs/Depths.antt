@@ -1,12 +1,12 @@
 -- Depths: which are bad, as the code tests them, and the op bytes of an exchange. Assumes nothing.
-use Prim.Native.Nat.{ℕ, _≤_, _<_}
+use Prim.Native.Nat.{ℕ, _≤_}
 use native.Mathlib.Omega.{arith}
-use mathlib.Core.Path.{_≡_, refl, sym, _∙_}
-use mathlib.Core.Bool.{Bool, true, false, _||_}
+use mathlib.Core.Path.{_≡_}
+use mathlib.Core.Bool.{false, _||_}
 use mathlib.Mathlib.Data.Bool.Basic.{or-eq-false-eq-eq-false-and-eq-false as or-false}
 use mathlib.Core.List.{[], _∷_}
 use lib.Dec.{ltb, eqb}
-use borrow.Author.Tests.{eq-eqb, ne-eqb, lt-ltb, le-ltb, ltb-false, eqb-false}
+use borrow.Author.Tests.{eq-eqb, ne-eqb, ltb-false, eqb-false}
 use Rattle.evm.specs.Opcodes.{swapOp}
 use Rattle.records.specs.Sections.{ops}
 use Rattle.calls.specs.Calls.{pushSwap, pushExchange, hasBadDepth, exchangeOps}

@@ -1,3 +1,1 @@
-pub mod Ways
 pub mod Depths
-pub mod Digits

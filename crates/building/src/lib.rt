@@ -2,7 +2,6 @@
 // It answers the next state, or a refusal with nothing changed. A call judges its own numbers (1, 2, 3), tries the short way, and has
 // every other case judged by `adding` (6, 4, 5).
 mod bytes;
-mod minimal;
 mod section;
 
 pub use bytes::push_data;

@@ -12,6 +12,8 @@ use units::AsmReference;
 use units::MarkReference;
 use units::Refusal;
 ghost use mathlib.Core.Path.{_≡_};
+ghost use lib.Dec.{ltb};
+ghost use Rattle.records.specs.Record.{maxMark};
 ghost use Rattle.records.specs.Store.{wordsPerSection};
 ghost use Rattle.calls.specs.Calls.{pushMark, pushReference, namesLargeMark, pushReply, pushAfter};
 ghost use Rattle.numbers.specs.Numbers.{storeIn, builtNumber};
@@ -24,7 +26,7 @@ pub fn push_mark(state: u64, bytes: &[u8], words: &mut [u32], mark: u32) -> u64
     ensures words { λ _. ⌜ now (words .exit) ≡ pushAfter wordsPerSection (pushMark mark)
         (storeIn state (now (bytes .entry)) (now (words .entry))) .words ⌝ }
 {
-    if Assembler::MAX_MARK < mark {
+    if is_large(mark) {
         return refusal_number(Refusal::LargeMark);
     }
     let tried = short::put_section(state, bytes, words, kind::MARK, mark, 0);
@@ -44,7 +46,7 @@ pub fn push_direct(state: u64, bytes: &[u8], words: &mut [u32], mark: u32, form:
     if !is_form(form) {
         return NAMES_NOTHING;
     }
-    if Assembler::MAX_MARK < mark {
+    if is_large(mark) {
         return refusal_number(Refusal::LargeMark);
     }
     let tried = short::put_section(state, bytes, words, kind::DIRECT, mark, form);
@@ -104,22 +106,29 @@ pub fn push_reference(state: u64, bytes: &[u8], words: &mut [u32], r: AsmReferen
     add_section(state, &bytes[..], words, kind, first, second)
 }
 
-// 3: a mark of a delta is too large.
+// 3: a mark's number is too large.
+fn is_large(mark: u32) -> bool
+    ensures { λ r. ⌜ r ≡ ltb maxMark mark ⌝ }
+{
+    Assembler::MAX_MARK < mark
+}
+
+// 3: a mark of a delta is.
 fn is_large_delta(start: u32, end: u32) -> bool
     ensures { λ r. ⌜ r ≡ namesLargeMark (delta start «end») ⌝ }
 {
-    if Assembler::MAX_MARK < start {
+    if is_large(start) {
         return true;
     }
-    Assembler::MAX_MARK < end
+    is_large(end)
 }
 
-// 3: a mark that a reference names is too large.
+// 3: a mark that a reference names is.
 fn names_large_mark(mark_ref: MarkReference) -> bool
     ensures { λ r. ⌜ r ≡ namesLargeMark «mark_ref» ⌝ }
 {
     match mark_ref {
-        MarkReference::Direct(id) => Assembler::MAX_MARK < id.0,
+        MarkReference::Direct(id) => is_large(id.0),
         MarkReference::Delta(span) => is_large_delta(span.start.0, span.end.0),
     }
 }

@@ -9,11 +9,13 @@ use borrow.Author.Tests.{le-leb, lt-leb, leb-true, lt-ltb, le-ltb}
 use Rattle.units.specs.declared.SetSize.{SetSize}
 use Rattle.units.specs.declared.MarkReference.{MarkReference}
 use Rattle.units.specs.Reference.{leastSize, sizeFor, tooNarrow, size}
-use Rattle.records.specs.Record.{setSizeOf, directKind, deltaKind, referenceWords}
 use Rattle.units.specs.Form.{sizeNumber, pushedNumber}
+use Rattle.records.specs.Record.{setSizeOf, directKind, deltaKind, referenceWords}
+use Rattle.records.specs.Store.{Store}
 use Rattle.calls.specs.Alone.{storedSection}
 use Rattle.numbers.specs.declared.form.Form.the-variants.{Names, Nothing}
-use Rattle.numbers.specs.Forms.{formOf, direct, delta, formed, isForm, formKind}
+use Rattle.numbers.specs.Numbers.{namesNothing}
+use Rattle.numbers.specs.Forms.{formOf, direct, delta, formed, referenceNumber, referenceAfter, isForm, formKind}
 
 module _ (n : ℕ) where
   pub form-raw : (s : SetSize) → n < 5 → s ≡ setSizeOf n → Names s false ≡ formOf n
@@ -58,11 +60,16 @@ pub record Named (n : ℕ) : Type 0 where
 
 module _ (n : ℕ) where
   -- a number that names nothing
-  pub form-nothing : isForm n ≡ false → formOf n ≡ Nothing
+  form-nothing : isForm n ≡ false → formOf n ≡ Nothing
   unfolding formOf
   form-nothing e =
       let both = or-false (leb n 4) (leb 8 n && leb n 12) .0 e in
       rw (both .0, both .1)
+
+  -- is answered so, and leaves the words as they are
+  pub unnamed : isForm n ≡ false → (w : ℕ) (m : MarkReference) (st : Store)
+      → (namesNothing ≡ referenceNumber w m (formOf n) st) × (st .words ≡ referenceAfter w m (formOf n) st)
+  unnamed e w m st = rw (form-nothing e) (refl, refl)
 
   -- one that names something
   pub form-named : isForm n ≡ true → Named n

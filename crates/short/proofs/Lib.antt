@@ -1,3 +1,4 @@
 pub mod Whole
 pub mod Digits
 pub mod Ways
+pub mod Judged

@@ -4,7 +4,7 @@ use borrow.Author.Needs.{needs}
 use denote.Ref.{now}
 use mathlib.Core.List.{[], _∷_}
 use Rattle.records.specs.Sections.{ops}
-use Rattle.building.proofs.Ways.{add-judged}
+use Rattle.short.proofs.Judged.{add-judged}
 use Rattle.building.proofs.bytes.begin_op.Statement.{statement}
 use Rattle.building.proofs.bytes.begin_op.Tie as tie
 

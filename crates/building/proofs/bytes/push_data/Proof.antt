@@ -4,7 +4,7 @@ use borrow.Author.Needs.{needs}
 use denote.Ref.{now}
 use mathlib.Core.Path.{refl}
 use Rattle.calls.specs.Calls.{pushData}
-use Rattle.building.proofs.Ways.{pushed, push-judged}
+use Rattle.short.proofs.Judged.{pushed, push-judged}
 use Rattle.building.proofs.bytes.push_data.Statement.{statement}
 use Rattle.building.proofs.bytes.push_data.Tie as tie
 

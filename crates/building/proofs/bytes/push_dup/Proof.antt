@@ -8,7 +8,7 @@ use Rattle.records.specs.Store.{wordsPerSection}
 use Rattle.calls.specs.Calls.{pushDup}
 use Rattle.numbers.specs.Numbers.{storeIn}
 use Rattle.numbers.proofs.Adds.{push-bad-depth}
-use Rattle.building.proofs.Ways.{Judged, pushed, push-judged}
+use Rattle.short.proofs.Judged.{Judged, pushed, push-judged}
 use Rattle.building.proofs.bytes.push_dup.Statement.{statement}
 use Rattle.building.proofs.bytes.push_dup.Tie as tie
 

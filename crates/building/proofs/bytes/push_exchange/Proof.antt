@@ -11,7 +11,7 @@ use Rattle.records.specs.Sections.{ops}
 use Rattle.calls.specs.Calls.{pushExchange, added}
 use Rattle.numbers.specs.Numbers.{storeIn}
 use Rattle.numbers.proofs.Adds.{push-bad-depth}
-use Rattle.building.proofs.Ways.{Judged, pushed, push-judged}
+use Rattle.short.proofs.Judged.{Judged, pushed, push-judged}
 use Rattle.building.proofs.Depths.{exchange-depths, exchange-zero-first, exchange-zero-second, exchange-three}
 use Rattle.building.proofs.bytes.push_exchange.Statement.{statement}
 use Rattle.building.proofs.bytes.push_exchange.Tie as tie

@@ -6,11 +6,11 @@ use Prim.Native.Nat.{ℕ}
 use mathlib.Core.Path.{_≡_, refl, sym, ap, _∙_}
 use mathlib.Core.List.{[], _∷_}
 use Rattle.records.specs.Store.{wordsPerSection}
-use Rattle.records.specs.Sections.{Section, ops}
+use Rattle.records.specs.Sections.{ops}
 use Rattle.calls.specs.Calls.{pushSwap, added}
 use Rattle.numbers.specs.Numbers.{storeIn}
 use Rattle.numbers.proofs.Adds.{push-bad-depth}
-use Rattle.building.proofs.Ways.{Judged, pushed, push-judged}
+use Rattle.short.proofs.Judged.{Judged, pushed, push-judged}
 use Rattle.building.proofs.Depths.{swap-depth}
 use Rattle.building.proofs.bytes.push_swap.Statement.{statement}
 use Rattle.building.proofs.bytes.push_swap.Tie as tie

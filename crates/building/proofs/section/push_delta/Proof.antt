@@ -9,14 +9,14 @@ use lib.Dec.{leb}
 use borrow.Author.Tests.{not-true, not-false}
 use Rattle.units.specs.declared.AsmReference.{AsmReference}
 use Rattle.records.specs.Record.{setSizeOf, referenceWords}
-use Rattle.records.specs.Store.{Store, wordsPerSection}
-use Rattle.calls.specs.Calls.{Push, pushReference}
+use Rattle.records.specs.Store.{wordsPerSection}
+use Rattle.calls.specs.Calls.{pushReference}
 use Rattle.calls.specs.Alone.{storedSection}
 use Rattle.numbers.specs.Numbers.{storeIn}
 use Rattle.numbers.specs.Forms.{delta, formed, isForm}
 use Rattle.numbers.proofs.Adds.{push-large-mark}
-use Rattle.numbers.proofs.Forms.{form-nothing, delta-formed}
-use Rattle.building.proofs.Ways.{Judged, put-done, put-judged, by-form}
+use Rattle.numbers.proofs.Forms.{unnamed, delta-formed}
+use Rattle.short.proofs.Judged.{Judged, put-done, put-judged, by-form}
 use Rattle.building.proofs.section.push_delta.Statement.{statement}
 use Rattle.building.proofs.section.push_delta.Tie as tie
 
@@ -59,7 +59,9 @@ is-form-requires : tie.Need-is-form-requires
 is-form-requires c κs = search needs
 
 returns : tie.Need-returns
-returns c = rw (form-nothing _ (sym (c .before .is-form .ensures) ∙ not-true _ (c .if1 .taken))) (refl, refl)
+returns c =
+    let a = c .before .before .before .before .args in
+    unnamed (a .form) (sym (c .before .is-form .ensures) ∙ not-true _ (c .if1 .taken)) wordsPerSection _ (storeIn (a .state) (now (a .bytes)) (now (a .words)))
 
 is-large-delta-requires : tie.Need-is-large-delta-requires
 is-large-delta-requires c κs = search needs

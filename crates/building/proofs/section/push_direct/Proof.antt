@@ -6,16 +6,15 @@ use Prim.Native.Nat.{_%_}
 use mathlib.Core.Path.{_≡_, refl, sym, _∙_}
 use mathlib.Core.Bool.{true}
 use lib.Dec.{leb}
-use borrow.Author.Tests.{lt-ltb, le-ltb, not-true, not-false}
-use Rattle.units.specs.declared.AsmReference.{AsmReference}
-use Rattle.records.specs.Record.{maxMark, setSizeOf}
-use Rattle.records.specs.Store.{Store, wordsPerSection}
+use borrow.Author.Tests.{not-true, not-false}
+use Rattle.records.specs.Record.{setSizeOf}
+use Rattle.records.specs.Store.{wordsPerSection}
 use Rattle.calls.specs.Calls.{Push, pushReference}
 use Rattle.numbers.specs.Numbers.{storeIn}
 use Rattle.numbers.specs.Forms.{direct, formed, isForm}
 use Rattle.numbers.proofs.Adds.{push-large-mark}
-use Rattle.numbers.proofs.Forms.{form-nothing, direct-formed}
-use Rattle.building.proofs.Ways.{Judged, put-done, put-judged, by-form}
+use Rattle.numbers.proofs.Forms.{unnamed, direct-formed}
+use Rattle.short.proofs.Judged.{Judged, put-done, put-judged, by-form}
 use Rattle.building.proofs.section.push_direct.Statement.{statement}
 use Rattle.building.proofs.section.push_direct.Tie as tie
 
@@ -32,10 +31,10 @@ call s = pushReference (formed (direct (s .args .mark)) (setSizeOf (s .args .for
 
 -- its mark is one
 abbrev entry : tie.Else2 → tie.Start
-entry c = named (c .before)
+entry c = named (c .before .before)
 
 judged : (c : tie.Else2) → Judged (call (entry c))
-judged c = (refl, (refl, le-ltb maxMark _ (c .if2 .left)))
+judged c = (refl, (refl, sym (c .before .is-large .ensures) ∙ c .if2 .left))
 
 -- what was tried
 abbrev tried : tie.After-slice-known2 → tie.After-put-section
@@ -48,7 +47,12 @@ is-form-requires : tie.Need-is-form-requires
 is-form-requires c κs = search needs
 
 returns : tie.Need-returns
-returns c = rw (form-nothing _ (sym (c .before .is-form .ensures) ∙ not-true _ (c .if1 .taken))) (refl, refl)
+returns c =
+    let a = c .before .before .before .before .args in
+    unnamed (a .form) (sym (c .before .is-form .ensures) ∙ not-true _ (c .if1 .taken)) wordsPerSection _ (storeIn (a .state) (now (a .bytes)) (now (a .words)))
+
+is-large-requires : tie.Need-is-large-requires
+is-large-requires c κs = search needs
 
 refusal-number-requires : tie.Need-refusal-number-requires
 refusal-number-requires c κs = search needs
@@ -56,10 +60,11 @@ refusal-number-requires c κs = search needs
 returns-2 : tie.Need-returns-2
 returns-2 c =
     let large = c .before in
-    let a = named (large .before) .args in
+    let form = large .before .before in
+    let a = named form .args in
     let st = storeIn (a .state) (now (a .bytes)) (now (a .words)) in
-    let all = push-large-mark wordsPerSection (call (named (large .before))) st refl refl (lt-ltb maxMark _ (large .if2 .taken)) in
-    by-form (a .form) (is-one (large .before)) (direct (a .mark)) st (c .refusal-number .ensures ∙ all .0, all .1 .1)
+    let all = push-large-mark wordsPerSection (call (named form)) st refl refl (sym (large .before .is-large .ensures) ∙ large .if2 .taken) in
+    by-form (a .form) (is-one form) (direct (a .mark)) st (c .refusal-number .ensures ∙ all .0, all .1 .1)
 
 put-section-requires : tie.Need-put-section-requires
 put-section-requires c κs = search needs
@@ -72,7 +77,7 @@ returns-3 c =
     let t = tried (c .before) in
     let small = tested t in
     let a = entry small .args in
-    let is = is-one (small .before) in
+    let is = is-one (small .before .before) in
     by-form (a .form) is (direct (a .mark)) (storeIn (a .state) (now (a .bytes)) (now (a .words)))
     (put-done (a .state) (now (a .bytes)) (now (a .words)) (call (entry small)) (judged small) tt (direct-formed (a .form) is (a .mark))
     (t .put-section .ensures) (c .if3 .taken))
@@ -90,7 +95,7 @@ returns-4 c =
     let t = tried (left .before) in
     let small = tested t in
     let a = entry small .args in
-    let is = is-one (small .before) in
+    let is = is-one (small .before .before) in
     by-form (a .form) is (direct (a .mark)) (storeIn (a .state) (now (a .bytes)) (now (a .words)))
     (put-judged (a .state) (now (a .bytes)) (now (a .words)) (call (entry small)) (judged small) tt (direct-formed (a .form) is (a .mark))
     (t .put-section .ensures) (left .if3 .left) (added .add-section .ensures))
@@ -101,6 +106,7 @@ push-direct-spec =
     (tie.spec
     is-form-requires
     returns
+    is-large-requires
     refusal-number-requires
     returns-2
     put-section-requires

@@ -2,23 +2,21 @@
 -- Assumes nothing.
 use borrow.Author.Needs.{needs}
 use denote.Ref.{now}
-use mathlib.Core.Path.{refl, _∙_}
-use borrow.Author.Tests.{lt-ltb, le-ltb}
-use Rattle.records.specs.Record.{maxMark}
+use mathlib.Core.Path.{refl, sym, _∙_}
 use Rattle.records.specs.Store.{wordsPerSection}
 use Rattle.calls.specs.Calls.{pushMark}
 use Rattle.numbers.specs.Numbers.{storeIn}
 use Rattle.numbers.proofs.Adds.{push-large-mark}
-use Rattle.building.proofs.Ways.{Judged, put-done, put-judged}
+use Rattle.short.proofs.Judged.{Judged, put-done, put-judged}
 use Rattle.building.proofs.section.push_mark.Statement.{statement}
 use Rattle.building.proofs.section.push_mark.Tie as tie
 
 -- the mark is one, seen from where it was tested
 abbrev entry : tie.Else1 → tie.Start
-entry c = c .before .before .before
+entry c = c .before .before .before .before
 
 judged : (c : tie.Else1) → Judged (pushMark (entry c .args .mark))
-judged c = (refl, (refl, le-ltb maxMark _ (c .if1 .left)))
+judged c = (refl, (refl, sym (c .before .is-large .ensures) ∙ c .if1 .left))
 
 -- what was tried
 abbrev tried : tie.After-slice-known2 → tie.After-put-section
@@ -27,14 +25,18 @@ tried c = c .before .before
 abbrev tested : tie.After-put-section → tie.Else1
 tested c = c .before .before
 
+is-large-requires : tie.Need-is-large-requires
+is-large-requires c κs = search needs
+
 refusal-number-requires : tie.Need-refusal-number-requires
 refusal-number-requires c κs = search needs
 
 returns : tie.Need-returns
 returns c =
-    let a = c .before .before .before .before .args in
+    let large = c .before in
+    let a = large .before .before .before .before .args in
     let st = storeIn (a .state) (now (a .bytes)) (now (a .words)) in
-    let all = push-large-mark wordsPerSection (pushMark (a .mark)) st refl refl (lt-ltb maxMark _ (c .before .if1 .taken)) in
+    let all = push-large-mark wordsPerSection (pushMark (a .mark)) st refl refl (sym (large .before .is-large .ensures) ∙ large .if1 .taken) in
     (c .refusal-number .ensures ∙ all .0, all .1 .1)
 
 put-section-requires : tie.Need-put-section-requires
@@ -70,6 +72,7 @@ pub push-mark-spec : {M : Type 1} → statement M
 push-mark-spec =
     tie.close
     (tie.spec
+    is-large-requires
     refusal-number-requires
     returns
     put-section-requires

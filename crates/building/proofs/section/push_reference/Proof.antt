@@ -2,12 +2,12 @@
 -- Assumes nothing.
 use borrow.Author.Needs.{needs}
 use denote.Ref.{now}
-use mathlib.Core.Path.{_≡_, refl, sym, _∙_}
+use mathlib.Core.Path.{refl, sym, _∙_}
 use Rattle.records.specs.Store.{wordsPerSection}
 use Rattle.calls.specs.Calls.{pushReference}
 use Rattle.numbers.specs.Numbers.{storeIn}
 use Rattle.numbers.proofs.Adds.{push-large-mark}
-use Rattle.building.proofs.Ways.{Judged, put-done, put-judged}
+use Rattle.short.proofs.Judged.{Judged, put-done, put-judged}
 use Rattle.building.proofs.section.push_reference.Statement.{statement}
 use Rattle.building.proofs.section.push_reference.Tie as tie
 

@@ -1,0 +1,75 @@
+-- A call whose own numbers are judged: what was tried, or else judged by `adding`, is what the call answers and leaves.
+-- Assumes nothing.
+use Prim.Native.Nat.{ℕ, _%_}
+use mathlib.Core.Path.{_≡_, refl, ap, _∙_}
+use mathlib.Core.Bool.{true, false}
+use mathlib.Core.List.{List}
+use lib.Dec.{leb}
+use Rattle.units.specs.declared.MarkReference.{MarkReference}
+use Rattle.records.specs.declared.record.StoredSection.{StoredSection}
+use Rattle.records.specs.Record.{setSizeOf}
+use Rattle.records.specs.Store.{Store, wordsPerSection}
+use Rattle.records.specs.Sections.{Section}
+use Rattle.calls.specs.Calls.{Push, pushReference, hasBadDepth, hasBadWord, hasLargeMark, added, wordsOf, pushReply, pushAfter}
+use Rattle.calls.specs.Alone.{StandsAlone, wordsReply, wordsAfter}
+use Rattle.calls.proofs.Alone.{alone-reply, alone-after}
+use Rattle.numbers.specs.Numbers.{storeIn, builtNumber}
+use Rattle.numbers.specs.Forms.{formOf, formed, isForm, referenceNumber, referenceAfter}
+use Rattle.numbers.proofs.Adds.{Adds, Pushes, push-adds}
+use Rattle.numbers.proofs.Forms.{form-named}
+use Rattle.short.specs.Tried.{TriedSection, TriedWords}
+
+-- none of a call's own numbers is refused
+abbrev pub Judged : Push → Type 0
+Judged p = (hasBadDepth p ≡ false) × ((hasBadWord p ≡ false) × (hasLargeMark p ≡ false))
+
+-- what a call answers, and the words that it leaves
+abbrev pub Leaves : Push → Store → ℕ → List ℕ → Type 0
+Leaves p st answer ws = (answer ≡ builtNumber (pushReply wordsPerSection p st)) × (ws ≡ pushAfter wordsPerSection p st .words)
+
+module _ (state : ℕ) (bytes words : List ℕ) where
+  -- a section that was tried in vain, and then judged
+  pub add-judged : (s : Section) {tried : ℕ} {bs ws : List ℕ} → TriedSection s (storeIn state bytes words) tried bs ws → tried ≡ 0
+      → {answer : ℕ} {bs′ ws′ : List ℕ} → Adds wordsPerSection s (storeIn state bs ws) answer bs′ ws′
+      → Adds wordsPerSection s (storeIn state bytes words) answer bs′ ws′
+  add-judged s t z made = rw (t .left z .0, t .left z .1) at made
+
+  -- a call that adds op bytes or data
+  module _ (p : Push) (good : Judged p) {s : Section} (is : s ≡ added p) where
+    pub pushed : {answer : ℕ} {bs ws : List ℕ} → Adds wordsPerSection s (storeIn state bytes words) answer bs ws
+        → Pushes wordsPerSection p (storeIn state bytes words) answer bs ws
+    pushed a = push-adds wordsPerSection p (storeIn state bytes words) (good .0) (good .1 .0) (good .1 .1) s _ _ _ is a
+
+    pub push-judged : {tried : ℕ} {bs ws : List ℕ} → TriedSection s (storeIn state bytes words) tried bs ws → tried ≡ 0
+        → {answer : ℕ} {bs′ ws′ : List ℕ} → Adds wordsPerSection s (storeIn state bs ws) answer bs′ ws′
+        → Pushes wordsPerSection p (storeIn state bytes words) answer bs′ ws′
+    push-judged t z made = pushed (add-judged _ t z made)
+
+  -- a call that adds a mark or a reference, by its words
+  module _ (p : Push) (good : Judged p) (alone : StandsAlone (added p)) {x : StoredSection} (is : x ≡ wordsOf 0 (added p)) where
+    put : {answer : ℕ} {ws : List ℕ}
+        → (answer ≡ builtNumber (wordsReply wordsPerSection x (storeIn state bytes words)))
+        × (ws ≡ wordsAfter wordsPerSection x (storeIn state bytes words) .words)
+        → Leaves p (storeIn state bytes words) answer ws
+    put made =
+        let st = storeIn state bytes words in
+        let reply = made .0 ∙ ap builtNumber (alone-reply wordsPerSection (added p) x st alone is) in
+        let after = made .1 ∙ ap (λ (y : Store). y .words) (alone-after wordsPerSection (added p) x st alone is) in
+        let all = pushed p good refl (reply, (refl, after)) in
+        (all .0, all .1 .1)
+
+    module _ {tried : ℕ} {ws : List ℕ} (t : TriedWords x (storeIn state bytes words) tried bytes ws) where
+      pub put-done : (tried ≡ 0 → ⊥) → Leaves p (storeIn state bytes words) tried ws
+      put-done h = put (t .done h .0, t .done h .1 .1)
+
+      pub put-judged : tried ≡ 0 → {answer : ℕ} {ws′ : List ℕ}
+          → (answer ≡ builtNumber (wordsReply wordsPerSection x (storeIn state bytes ws)))
+          × (ws′ ≡ wordsAfter wordsPerSection x (storeIn state bytes ws) .words)
+          → Leaves p (storeIn state bytes words) answer ws′
+      put-judged z made = put (rw (t .left z .1) at made)
+
+-- what pushing a reference of a form answers, and leaves
+pub by-form : (n : ℕ) → isForm n ≡ true → (m : MarkReference) (st : Store) {answer : ℕ} {ws : List ℕ}
+    → Leaves (pushReference (formed m (setSizeOf (n % 8)) (leb 8 n))) st answer ws
+    → (answer ≡ referenceNumber wordsPerSection m (formOf n) st) × (ws ≡ referenceAfter wordsPerSection m (formOf n) st)
+by-form n is m st made = rw (form-named n is .form) made
