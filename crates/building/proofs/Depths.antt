@@ -34,7 +34,6 @@ module _ (n m : ℕ) where
   unfolding exchangeOps
   exchange-zero-second y z e = rw (ne-eqb n 0 y, eq-eqb m 0 z, e)
 
-  pub exchange-three : {x y z : ℕ} → (n ≡ 0 → ⊥) → (m ≡ 0 → ⊥) → x ≡ swapOp n → y ≡ swapOp m → z ≡ swapOp n
-      → ops (x ∷ y ∷ z ∷ []) ≡ ops (exchangeOps n m)
+  pub exchange-three : {x y : ℕ} → (n ≡ 0 → ⊥) → (m ≡ 0 → ⊥) → x ≡ swapOp n → y ≡ swapOp m → ops (x ∷ y ∷ x ∷ []) ≡ ops (exchangeOps n m)
   unfolding exchangeOps
-  exchange-three a b e f g = rw (ne-eqb n 0 a, ne-eqb m 0 b, e, f, g)
+  exchange-three a b e f = rw (ne-eqb n 0 a, ne-eqb m 0 b, e, f)

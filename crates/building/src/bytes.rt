@@ -94,12 +94,16 @@ pub fn push_exchange(state: u64, bytes: &mut [u8], words: &mut [u32], n: u8, m: 
     if m == 0 {
         return begin_op(state, bytes, words, swap_op(n));
     }
-    let ops = [swap_op(n), swap_op(m), swap_op(n)];
+    let first = swap_op(n);
+    let second = swap_op(m);
+    let ops = [first, second, first];
     let tried = short::extend_ops(state, bytes, words, &ops);
     if tried != 0 {
         return tried;
     }
-    add_bytes(state, bytes, words, BytesKind::Ops, &ops)
+    // Made anew: lent twice, one array would lie in memory on the short way.
+    let again = [first, second, first];
+    add_bytes(state, bytes, words, BytesKind::Ops, &again)
 }
 
 // Adds data; empty data adds an empty Data section unless the last section is Data. Refusals: 6, 4, 5.
@@ -115,7 +119,8 @@ pub fn push_data(state: u64, bytes: &mut [u8], words: &mut [u32], data: &[u8]) -
     if tried != 0 {
         return tried;
     }
-    add_bytes(state, bytes, words, BytesKind::Data, data)
+    // Taken anew: lent on as it is, the slice would go by way of memory on the short way too.
+    add_bytes(state, bytes, words, BytesKind::Data, &data[..])
 }
 
 // Adds an op byte that extends no section at once. With several callers it stays a function of its own: inlined into them, it gives

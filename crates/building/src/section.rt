@@ -1,5 +1,5 @@
-// The calls that add a mark or a reference, a section of its own. A slice lent on goes by way of memory: `bytes` is taken anew for the
-// function that judges, so that it does so there only and not on the short way.
+// The calls that add a mark or a reference, a section of its own. A slice lent on goes by way of memory: `bytes` is taken anew for
+// `push_words`, so that it does so there only and not on the short way.
 use adding::add_section;
 use numbers::NAMES_NOTHING;
 use numbers::delta_kind;
@@ -16,6 +16,7 @@ ghost use lib.Dec.{ltb};
 ghost use Rattle.records.specs.Record.{maxMark};
 ghost use Rattle.records.specs.Store.{wordsPerSection};
 ghost use Rattle.calls.specs.Calls.{pushMark, pushReference, namesLargeMark, pushReply, pushAfter};
+ghost use Rattle.calls.specs.Alone.{storedSection, wordsReply, wordsAfter};
 ghost use Rattle.numbers.specs.Numbers.{storeIn, builtNumber};
 ghost use Rattle.numbers.specs.Forms.{formOf, direct, delta, referenceNumber, referenceAfter};
 
@@ -33,7 +34,7 @@ pub fn push_mark(state: u64, bytes: &[u8], words: &mut [u32], mark: u32) -> u64
     if tried != 0 {
         return tried;
     }
-    add_section(state, &bytes[..], words, kind::MARK, mark, 0)
+    push_words(state, &bytes[..], words, kind::MARK, mark, 0)
 }
 
 // Adds a reference to a mark's offset, in a form. Refusals: 255, 3, 6, 5.
@@ -53,7 +54,7 @@ pub fn push_direct(state: u64, bytes: &[u8], words: &mut [u32], mark: u32, form:
     if tried != 0 {
         return tried;
     }
-    add_section(state, &bytes[..], words, kind::DIRECT, mark, form)
+    push_words(state, &bytes[..], words, kind::DIRECT, mark, form)
 }
 
 // Adds a reference to end's offset minus start's, in a form. Refusals: 255, 3, 6, 5.
@@ -81,7 +82,7 @@ pub fn push_delta(
     if tried != 0 {
         return tried;
     }
-    add_section(state, &bytes[..], words, kind, start, end)
+    push_words(state, &bytes[..], words, kind, start, end)
 }
 
 // Adds a reference. Refusals: 3, 6, 5.
@@ -99,11 +100,29 @@ pub fn push_reference(state: u64, bytes: &[u8], words: &mut [u32], r: AsmReferen
     let kind = section.kind;
     let first = section.first;
     let second = section.second;
+    push_words(state, bytes, words, kind, first, second)
+}
+
+// Adds a mark or a reference by its words, tried and judged: as a whole it is too large to be inlined, which would give the short ways a
+// stack frame.
+fn push_words(
+    state: u64,
+    bytes: &[u8],
+    words: &mut [u32],
+    kind: u32,
+    first: u32,
+    second: u32,
+) -> u64
+    ensures reply { λ r. ⌜ r ≡ builtNumber (wordsReply wordsPerSection (storedSection kind first second)
+        (storeIn state (now (bytes .entry)) (now (words .entry)))) ⌝ }
+    ensures words { λ _. ⌜ now (words .exit) ≡ wordsAfter wordsPerSection (storedSection kind first second)
+        (storeIn state (now (bytes .entry)) (now (words .entry))) .words ⌝ }
+{
     let tried = short::put_section(state, bytes, words, kind, first, second);
     if tried != 0 {
         return tried;
     }
-    add_section(state, &bytes[..], words, kind, first, second)
+    add_section(state, bytes, words, kind, first, second)
 }
 
 // 3: a mark's number is too large.

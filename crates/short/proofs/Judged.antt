@@ -27,6 +27,10 @@ Judged p = (hasBadDepth p ≡ false) × ((hasBadWord p ≡ false) × (hasLargeMa
 abbrev pub Leaves : Push → Store → ℕ → List ℕ → Type 0
 Leaves p st answer ws = (answer ≡ builtNumber (pushReply wordsPerSection p st)) × (ws ≡ pushAfter wordsPerSection p st .words)
 
+-- what adding three words answers, and the words that it leaves
+abbrev pub WordsAdded : StoredSection → Store → ℕ → List ℕ → Type 0
+WordsAdded x st answer ws = (answer ≡ builtNumber (wordsReply wordsPerSection x st)) × (ws ≡ wordsAfter wordsPerSection x st .words)
+
 module _ (state : ℕ) (bytes words : List ℕ) where
   -- a section that was tried in vain, and then judged
   pub add-judged : (s : Section) {tried : ℕ} {bs ws : List ℕ} → TriedSection s (storeIn state bytes words) tried bs ws → tried ≡ 0
@@ -45,12 +49,14 @@ module _ (state : ℕ) (bytes words : List ℕ) where
         → Pushes wordsPerSection p (storeIn state bytes words) answer bs′ ws′
     push-judged t z made = pushed (add-judged _ t z made)
 
+  -- three words that were tried in vain, and then judged
+  pub words-judged : (x : StoredSection) {tried : ℕ} {ws : List ℕ} → TriedWords x (storeIn state bytes words) tried bytes ws → tried ≡ 0
+      → {answer : ℕ} {ws′ : List ℕ} → WordsAdded x (storeIn state bytes ws) answer ws′ → WordsAdded x (storeIn state bytes words) answer ws′
+  words-judged x t z made = rw (t .left z .1) at made
+
   -- a call that adds a mark or a reference, by its words
   module _ (p : Push) (good : Judged p) (alone : StandsAlone (added p)) {x : StoredSection} (is : x ≡ wordsOf 0 (added p)) where
-    put : {answer : ℕ} {ws : List ℕ}
-        → (answer ≡ builtNumber (wordsReply wordsPerSection x (storeIn state bytes words)))
-        × (ws ≡ wordsAfter wordsPerSection x (storeIn state bytes words) .words)
-        → Leaves p (storeIn state bytes words) answer ws
+    pub put : {answer : ℕ} {ws : List ℕ} → WordsAdded x (storeIn state bytes words) answer ws → Leaves p (storeIn state bytes words) answer ws
     put made =
         let st = storeIn state bytes words in
         let reply = made .0 ∙ ap builtNumber (alone-reply wordsPerSection (added p) x st alone is) in
@@ -62,11 +68,9 @@ module _ (state : ℕ) (bytes words : List ℕ) where
       pub put-done : (tried ≡ 0 → ⊥) → Leaves p (storeIn state bytes words) tried ws
       put-done h = put (t .done h .0, t .done h .1 .1)
 
-      pub put-judged : tried ≡ 0 → {answer : ℕ} {ws′ : List ℕ}
-          → (answer ≡ builtNumber (wordsReply wordsPerSection x (storeIn state bytes ws)))
-          × (ws′ ≡ wordsAfter wordsPerSection x (storeIn state bytes ws) .words)
+      pub put-judged : tried ≡ 0 → {answer : ℕ} {ws′ : List ℕ} → WordsAdded x (storeIn state bytes ws) answer ws′
           → Leaves p (storeIn state bytes words) answer ws′
-      put-judged z made = put (rw (t .left z .1) at made)
+      put-judged z made = put (words-judged x t z made)
 
 -- what pushing a reference of a form answers, and leaves
 pub by-form : (n : ℕ) → isForm n ≡ true → (m : MarkReference) (st : Store) {answer : ℕ} {ws : List ℕ}

@@ -30,23 +30,22 @@ depths c = exchange-depths (entry c .args .n) (entry c .args .m) (judged c .0)
 abbrev tested : tie.Else3 → tie.Else1
 tested c = c .before .before
 
-abbrev neither : tie.After-swap-op5 → tie.Else3
-neither c = c .before .before .before
+abbrev neither : tie.After-swap-op4 → tie.Else3
+neither c = c .before .before
 
-three : (c : tie.After-swap-op5)
-    → ops (c .before .before .swap-op3 .result ∷ c .before .swap-op4 .result ∷ c .swap-op5 .result ∷ [])
+three : (c : tie.After-swap-op4)
+    → ops (c .before .swap-op3 .result ∷ c .swap-op4 .result ∷ c .before .swap-op3 .result ∷ [])
     ≡ added (pushExchange (entry (tested (neither c)) .args .n) (entry (tested (neither c)) .args .m))
 three c =
-    let second = c .before in
-    let first = second .before in
     let none = neither c in
-    exchange-three _ _ (none .before .if2 .left) (none .if3 .left) (first .swap-op3 .ensures) (second .swap-op4 .ensures) (c .swap-op5 .ensures)
+    exchange-three (entry (tested none) .args .n) (entry (tested none) .args .m) (none .before .if2 .left) (none .if3 .left)
+    (c .before .swap-op3 .ensures) (c .swap-op4 .ensures)
 
 -- what was tried
 abbrev tried : tie.After-slice-known8 → tie.After-extend-ops
 tried c = c .before .before .before .before
 
-abbrev swapped : tie.After-extend-ops → tie.After-swap-op5
+abbrev swapped : tie.After-extend-ops → tie.After-swap-op4
 swapped c = c .before .before .before .before
 
 is-bad-exchange-requires : tie.Need-is-bad-exchange-requires
@@ -113,9 +112,6 @@ swap-op-requires-3 c κs = omega (arith, depths (tested c))
 swap-op-requires-4 : tie.Need-swap-op-requires-4
 swap-op-requires-4 c κs = omega (arith, depths (tested (c .before)))
 
-swap-op-requires-5 : tie.Need-swap-op-requires-5
-swap-op-requires-5 c κs = omega (arith, depths (tested (c .before .before)))
-
 slice-aggregate-extend-ops : tie.Need-slice-aggregate-extend-ops
 slice-aggregate-extend-ops c = search needs
 
@@ -178,7 +174,6 @@ push-exchange-spec =
     returns-3
     swap-op-requires-3
     swap-op-requires-4
-    swap-op-requires-5
     slice-aggregate-extend-ops
     extend-ops-requires
     same-length-5

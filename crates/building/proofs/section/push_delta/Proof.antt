@@ -97,8 +97,8 @@ returns-3 c =
     (put-done (a .state) (now (a .bytes)) (now (a .words)) (pushReference (reference-of (entry small))) (judged small) tt (words w)
     (t .put-section .ensures) (c .if3 .taken))
 
-add-section-requires : tie.Need-add-section-requires
-add-section-requires c κs = search needs
+push-words-requires : tie.Need-push-words-requires
+push-words-requires c κs = search needs
 
 same-length-2 : tie.Need-same-length-2
 same-length-2 c = search needs
@@ -113,7 +113,7 @@ returns-4 c =
     let a = entry small .args in
     by-form (a .form) (is-one (small .before .before)) (delta (a .start) (a .end)) (storeIn (a .state) (now (a .bytes)) (now (a .words)))
     (put-judged (a .state) (now (a .bytes)) (now (a .words)) (pushReference (reference-of (entry small))) (judged small) tt (words w)
-    (t .put-section .ensures) (left .if3 .left) (added .add-section .ensures))
+    (t .put-section .ensures) (left .if3 .left) (added .push-words .ensures))
 
 pub push-delta-spec : {M : Type 1} → statement M
 push-delta-spec =
@@ -128,6 +128,6 @@ push-delta-spec =
     put-section-requires
     same-length
     returns-3
-    add-section-requires
+    push-words-requires
     same-length-2
     returns-4)

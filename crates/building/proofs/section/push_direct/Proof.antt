@@ -82,8 +82,8 @@ returns-3 c =
     (put-done (a .state) (now (a .bytes)) (now (a .words)) (call (entry small)) (judged small) tt (direct-formed (a .form) is (a .mark))
     (t .put-section .ensures) (c .if3 .taken))
 
-add-section-requires : tie.Need-add-section-requires
-add-section-requires c κs = search needs
+push-words-requires : tie.Need-push-words-requires
+push-words-requires c κs = search needs
 
 same-length-2 : tie.Need-same-length-2
 same-length-2 c = search needs
@@ -98,7 +98,7 @@ returns-4 c =
     let is = is-one (small .before .before) in
     by-form (a .form) is (direct (a .mark)) (storeIn (a .state) (now (a .bytes)) (now (a .words)))
     (put-judged (a .state) (now (a .bytes)) (now (a .words)) (call (entry small)) (judged small) tt (direct-formed (a .form) is (a .mark))
-    (t .put-section .ensures) (left .if3 .left) (added .add-section .ensures))
+    (t .put-section .ensures) (left .if3 .left) (added .push-words .ensures))
 
 pub push-direct-spec : {M : Type 1} → statement M
 push-direct-spec =
@@ -112,6 +112,6 @@ push-direct-spec =
     put-section-requires
     same-length
     returns-3
-    add-section-requires
+    push-words-requires
     same-length-2
     returns-4)

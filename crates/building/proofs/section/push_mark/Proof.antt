@@ -52,8 +52,8 @@ returns-2 c =
     let a = entry small .args in
     put-done (a .state) (now (a .bytes)) (now (a .words)) (pushMark (a .mark)) (judged small) tt refl (t .put-section .ensures) (c .if2 .taken)
 
-add-section-requires : tie.Need-add-section-requires
-add-section-requires c κs = search needs
+push-words-requires : tie.Need-push-words-requires
+push-words-requires c κs = search needs
 
 same-length-2 : tie.Need-same-length-2
 same-length-2 c = search needs
@@ -66,7 +66,7 @@ returns-3 c =
     let small = tested t in
     let a = entry small .args in
     put-judged (a .state) (now (a .bytes)) (now (a .words)) (pushMark (a .mark)) (judged small) tt refl (t .put-section .ensures) (left .if2 .left)
-    (added .add-section .ensures)
+    (added .push-words .ensures)
 
 pub push-mark-spec : {M : Type 1} → statement M
 push-mark-spec =
@@ -78,6 +78,6 @@ push-mark-spec =
     put-section-requires
     same-length
     returns-2
-    add-section-requires
+    push-words-requires
     same-length-2
     returns-3)

@@ -1,4 +1,4 @@
--- 3; at once after a last section; else what adding the words gives.
+-- 3; else what adding the words gives.
 -- Assumes nothing.
 use borrow.Author.Needs.{needs}
 use denote.Ref.{now}
@@ -7,7 +7,7 @@ use Rattle.records.specs.Store.{wordsPerSection}
 use Rattle.calls.specs.Calls.{pushReference}
 use Rattle.numbers.specs.Numbers.{storeIn}
 use Rattle.numbers.proofs.Adds.{push-large-mark}
-use Rattle.short.proofs.Judged.{Judged, put-done, put-judged}
+use Rattle.short.proofs.Judged.{Judged, put}
 use Rattle.building.proofs.section.push_reference.Statement.{statement}
 use Rattle.building.proofs.section.push_reference.Tie as tie
 
@@ -17,13 +17,6 @@ entry c = c .before .before .before .before
 
 judged : (c : tie.Else1) → Judged (pushReference (entry c .args .r))
 judged c = (refl, (refl, sym (c .before .names-large-mark .ensures) ∙ c .if1 .left))
-
--- the words, and what was tried
-abbrev worded : tie.After-put-section → tie.After-reference-words
-worded c = c .before .before
-
-abbrev tried : tie.After-slice-known2 → tie.After-put-section
-tried c = c .before .before
 
 names-large-mark-requires : tie.Need-names-large-mark-requires
 names-large-mark-requires c κs = search needs
@@ -42,35 +35,19 @@ returns c =
 reference-words-requires : tie.Need-reference-words-requires
 reference-words-requires c κs = search needs
 
-put-section-requires : tie.Need-put-section-requires
-put-section-requires c κs = search needs
+push-words-requires : tie.Need-push-words-requires
+push-words-requires c κs = search needs
 
 same-length : tie.Need-same-length
 same-length c = search needs
 
 returns-2 : tie.Need-returns-2
 returns-2 c =
-    let t = tried (c .before) in
-    let w = worded t in
-    let a = entry (w .before) .args in
-    put-done (a .state) (now (a .bytes)) (now (a .words)) (pushReference (a .r)) (judged (w .before)) tt (w .reference-words .ensures)
-    (t .put-section .ensures) (c .if2 .taken)
-
-add-section-requires : tie.Need-add-section-requires
-add-section-requires c κs = search needs
-
-same-length-2 : tie.Need-same-length-2
-same-length-2 c = search needs
-
-returns-3 : tie.Need-returns-3
-returns-3 c =
-    let added = c .before .before in
-    let left = added .before .before in
-    let t = tried (left .before) in
-    let w = worded t in
-    let a = entry (w .before) .args in
-    put-judged (a .state) (now (a .bytes)) (now (a .words)) (pushReference (a .r)) (judged (w .before)) tt (w .reference-words .ensures)
-    (t .put-section .ensures) (left .if2 .left) (added .add-section .ensures)
+    let put-now = c .before .before in
+    let worded = put-now .before .before in
+    let small = worded .before in
+    let a = entry small .args in
+    put (a .state) (now (a .bytes)) (now (a .words)) (pushReference (a .r)) (judged small) tt (worded .reference-words .ensures) (put-now .push-words .ensures)
 
 pub push-reference-spec : {M : Type 1} → statement M
 push-reference-spec =
@@ -80,9 +57,6 @@ push-reference-spec =
     refusal-number-requires
     returns
     reference-words-requires
-    put-section-requires
+    push-words-requires
     same-length
-    returns-2
-    add-section-requires
-    same-length-2
-    returns-3)
+    returns-2)
