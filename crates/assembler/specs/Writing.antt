@@ -2,12 +2,12 @@
 -- settling, which refused all else. Assumes nothing.
 use Prim.Native.Nat.{ℕ, _+_, _%_, _≤_}
 use mathlib.Core.Path.{_≡_}
-use mathlib.Core.Bool.{false, cond}
+use mathlib.Core.Bool.{true, false, cond}
 use mathlib.Core.List.{List, [], _∷_, _++_}
 use lib.Dec.{leb}
 use lib.ListN.{length}
 use Rattle.units.specs.Numbers.{bigEndian}
-use Rattle.units.specs.Form.{countByForm, pushZeroByForm}
+use Rattle.units.specs.Form.{pushedNumber, countByForm, pushZeroByForm}
 use Rattle.records.specs.Record.{directKind, readSection, formOf}
 use Rattle.records.specs.Sections.{sectionRead}
 use Rattle.records.specs.declared.record.StoredSection.{StoredSection}
@@ -32,7 +32,9 @@ wordsBytes table bytes x = sectionBytes (entry table) (sectionRead bytes (readSe
 
 -- the bytes of a value, by a reference's form
 unfoldable pub formBytes : ℕ → ℕ → List ℕ
-formBytes f v = cond (pushZeroByForm f v) (0x5f ∷ []) (opcode (leb 8 f) (countByForm f v) ++ bigEndian (countByForm f v) v)
+formBytes f v =
+    cond (pushZeroByForm f v) (0x5f ∷ [])
+    (opcode (leb (pushedNumber true) f) (countByForm f v) ++ bigEndian (countByForm f v) v)
 
 -- three words of an undamaged store whose marks are in the table, and that aren't a backward delta
 pub record Writable (bytes table : List ℕ) (x : StoredSection) : Type 0 where

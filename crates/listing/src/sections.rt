@@ -16,9 +16,9 @@ ghost use mathlib.Core.Path.{_≡_};
 ghost use Prim.Native.Nat.{_+_, _*_, _≤_};
 ghost use lib.ListN.{length};
 ghost use Rattle.records.specs.Record.{readSection};
-ghost use Rattle.records.specs.Store.{storeOf, wordsPerSection, wordsAt};
+ghost use Rattle.records.specs.Store.{wordsPerSection, wordsAt};
 ghost use Rattle.undamaged.specs.Section.{ReadIn};
-ghost use Rattle.listing.specs.Put.{Put, Room, wordsText, storeText, Listable};
+ghost use Rattle.listing.specs.Put.{Put, Room, wordsText, storeText, storeWith, Listable};
 
 // The three words of section i. A copy of the reader in `records` and not a call: a public one would test the index at each section.
 fn section_words(words: &[u32], i: usize) -> StoredSection
@@ -61,22 +61,23 @@ fn put_words(text: &mut [u8], at: usize, bytes: &[u8], section: StoredSection) -
     put_reference_line(text, at, reference)
 }
 
-// The lines of every section.
+// The lines of every section of a store, by its two counts and its two slices.
 pub(crate) fn put_sections(
     text: &mut [u8],
     at: usize,
-    store: Assembler,
+    stored: u32,
+    sections: u32,
     bytes: &[u8],
     words: &[u32],
 ) -> usize
-    requires { ⌜ Listable wordsPerSection (storeOf store (now bytes) (now words)) at ⌝ }
+    requires { ⌜ Listable wordsPerSection (storeWith stored sections (now bytes) (now words)) at ⌝ }
     ensures { λ r.
         ⌜ Put (now (text .entry)) at
-        (storeText wordsPerSection (storeOf store (now (bytes .entry)) (now (words .entry)))) r (now (text .exit)) ⌝ }
+        (storeText wordsPerSection (storeWith stored sections (now (bytes .entry)) (now (words .entry)))) r (now (text .exit)) ⌝ }
 {
     let mut here = at;
     let mut i: u32 = 0;
-    while i < store.sections {
+    while i < sections {
         here = put_words(text, here, bytes, section_words(words, i as usize));
         i += 1;
     }

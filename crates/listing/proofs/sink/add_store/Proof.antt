@@ -1,5 +1,5 @@
--- `sink::add_store` meets its contract: a walk of its MIR, by hand. The sink is taken apart, and its slice and its count are passed to `put_store`, of which the proof knows only that it meets its contract.
--- The callee is called at the borrow's own lifetime, share and ghost name: the borrow is given up for good, and what `put_store` says of the last list is what `add_store` says of the sink's text at exit. What the shared slices own is had twice, once for the callee and once for the exit.
+-- `sink::add_store` meets its contract: a walk of its MIR, by hand. The sink is taken apart, and its slice and its count are passed to `put_sections`, of which the proof knows only that it meets its contract.
+-- The callee is called at the borrow's own lifetime, share and ghost name: the borrow is given up for good, and what `put_sections` says of the last list is what `add_store` says of the sink's text at exit. What the shared slices own is had twice, once for the callee and once for the exit.
 -- Assumes nothing.
 use mathlib.Core.Path.{_≡_, refl}
 use Prim.Native.Nat.{ℕ, _<_, _^_}
@@ -46,10 +46,10 @@ use Rattle.listing.specs.declared.sink.TextSink.{TextSink}
 use Rattle.listing.proofs.sink.TextSink as T
 use Rattle.listing.proofs.sink.TextSink.Laws as T′
 use Rattle.listing.proofs.Held.{sink-gave, sink-gave-goes}
-use Rattle.listing.proofs.sink.put_store as put-store
-use Rattle.listing.proofs.sink.put_store.Symbol as put-store-def
-use Rattle.listing.proofs.sink.put_store.Symbol.{name as #listing·sink·put-store}
-use Rattle.listing.proofs.sink.put_store.Met as put-store-thm
+use Rattle.listing.proofs.sections.put_sections as put-sections
+use Rattle.listing.proofs.sections.put_sections.Symbol as put-sections-def
+use Rattle.listing.proofs.sections.put_sections.Symbol.{name as #listing·sections·put-sections}
+use Rattle.listing.proofs.sections.put_sections.Met as put-sections-thm
 use Rattle.listing.proofs.sink.add_store.Key.{name as #listing·sink·add-store}
 use Rattle.listing.proofs.sink.add_store as add-store
 use Rattle.listing.proofs.sink.add_store.Statement as stated
@@ -59,8 +59,8 @@ abbrev stayed : Stays (add-store.ended .signature .params) (add-store.ended .kep
 stayed = (sink-gave, (stay-none (λ _. u32) yes, (stay-none (λ _. u32) yes, (stay-none-slice (1 ∷ []) tt (plain (λ _. u8)) yes, (stay-none-slice (2 ∷ []) tt (plain (λ _. u32)) yes, tt)))))
 
 -- the contract that the proof cites
-abbrev PutStore : {M : Type 1} (𝓤 : URA M) (H : Heap 𝓤) (A : Atoms 𝓤) (mem : Memory → SProp 𝓤) (run : Routine → Fun 𝓤) → Contract 𝓤
-PutStore 𝓤 H A mem run = tripleOf 𝓤 H A put-store.signature (put-store.spec 𝓤 H A mem run)
+abbrev PutSections : {M : Type 1} (𝓤 : URA M) (H : Heap 𝓤) (A : Atoms 𝓤) (mem : Memory → SProp 𝓤) (run : Routine → Fun 𝓤) → Contract 𝓤
+PutSections 𝓤 H A mem run = tripleOf 𝓤 H A put-sections.signature (put-sections.spec 𝓤 H A mem run)
 
 module _ {M : Type 1} (𝓤 : URA M) (H : Heap 𝓤) (A : Atoms 𝓤) (W : Given 𝓤 H A) (mem : Memory → SProp 𝓤) (run : Routine → Fun 𝓤) (κ κ′ κ″ : Lft) (q q′ q″ : Share) (b o : ℕ) (γ : GName) (ys : List ℕ) (n st se : ℕ) (n-fits : n < 2 ^ 64) (st-fits : st < 2 ^ 32) (se-fits : se < 2 ^ 32) (xb xw : RefT (List ℕ)) where
   abbrev κs : Lfts 3
@@ -115,11 +115,11 @@ module _ {M : Type 1} (𝓤 : URA M) (H : Heap 𝓤) (A : Atoms 𝓤) (W : Given
   abbrev Post : Val → SProp 𝓤
   Post = walkOf 𝓤 H A add-store.ended stayed (add-store.clauses 𝓤 H A mem run) .post ((κs, (q, (q′, (q″, tt))), tt, a, vals), tt)
 
-  -- what `put_store`'s triple binds outside: the borrows' own lifetimes, shares and values
-  abbrev to : PutStore 𝓤 H A mem run .Ghost
+  -- what `put_sections`'s triple binds outside: the borrows' own lifetimes, shares and values
+  abbrev to : PutSections 𝓤 H A mem run .Ghost
   to = ((κs, (q, (q′, (q″, tt))), tt, (x, (n, (st, (se, (xb, (xw, tt)))))), (s ∷ [], (vint w64 n ∷ [], (vint w32 st ∷ [], (vint w32 se ∷ [], (sb ∷ [], (sw ∷ [], tt))))))), tt)
 
-  goes : Listable wordsPerSection (storeWith st se (now xb) (now xw)) n → ent 𝓤 (⋆ 𝓤 H A (Tokens ∷ ‵ OwnX ∷ ‵ OwnB ∷ ‵ OwnW ∷ [])) (PutStore 𝓤 H A mem run .pre to)
+  goes : Listable wordsPerSection (storeWith st se (now xb) (now xw)) n → ent 𝓤 (⋆ 𝓤 H A (Tokens ∷ ‵ OwnX ∷ ‵ OwnB ∷ ‵ OwnW ∷ [])) (PutSections 𝓤 H A mem run .pre to)
   goes ok =
       qed W (Tokens ∷ ‵ OwnX ∷ ‵ OwnB ∷ ‵ OwnW ∷ []) ∵ says ! ok $ frame ! $
       nothing ! $ move ! (3 ∷ 0 ∷ []) $ fjoin ! $ move ! (2 ∷ 0 ∷ []) $ fjoin ! $
@@ -128,7 +128,7 @@ module _ {M : Type 1} (𝓤 : URA M) (H : Heap 𝓤) (A : Atoms 𝓤) (W : Given
 
   -- what is owned at entry gives what the callee asks, and what the shared slices own is kept
   apart : Listable wordsPerSection (storeWith st se (now xb) (now xw)) n
-      → ent 𝓤 (onEntry 𝓤 H A add-store.signature κs (q, (q′, (q″, tt))) a vals) (sep 𝓤 (PutStore 𝓤 H A mem run .pre to) (sep 𝓤 (sem 𝓤 H A OwnB) (sem 𝓤 H A OwnW)))
+      → ent 𝓤 (onEntry 𝓤 H A add-store.signature κs (q, (q′, (q″, tt))) a vals) (sep 𝓤 (PutSections 𝓤 H A mem run .pre to) (sep 𝓤 (sem 𝓤 H A OwnB) (sem 𝓤 H A OwnW)))
   apart ok =
       qed W (Tokens ∷ ‵ (owns (T.the-row α ∷ u32 ∷ u32 ∷ ShrSlice (named 1) κ′ u8 ∷ ShrSlice (named 2) κ″ u32 ∷ []) a vals) ∷ []) ∵
       move ! (1 ∷ []) $ fsplit ! $ use1 W (given (mach ∷ [] ≡ mach ∷ []) (‵ (all-own (T.the-type α .parts) (T′.the-laws α) (x, (n, tt))))) (own-open 𝓤 H A W (T.the-type α) (T′.the-laws α) (x, (n, tt)) mach) $ learn ! (λ _. fsplit ! $
@@ -137,7 +137,7 @@ module _ {M : Type 1} (𝓤 : URA M) (H : Heap 𝓤) (A : Atoms 𝓤) (W : Given
       use1 W (‵ OwnB ⊛ ‵ OwnB) (shr-slice-copy 𝓤 H A W (named 1) κ′ u8 .twice xb (sb ∷ [])) $ split ! $ move ! (2 ∷ []) $ fsplit ! $
       use1 W (‵ OwnW ⊛ ‵ OwnW) (shr-slice-copy 𝓤 H A W (named 2) κ″ u32 .twice xw (sw ∷ [])) $ split ! $
       -- [words, twice; nothing; bytes, twice; the text's borrow; the count; the tokens]
-      keep ! (7 ∷ 5 ∷ 3 ∷ 0 ∷ 4 ∷ 1 ∷ []) $ group ! 4 $ use1 W (raw (PutStore 𝓤 H A mem run .pre to)) (goes ok) $ frame ! $ done !)
+      keep ! (7 ∷ 5 ∷ 3 ∷ 0 ∷ 4 ∷ 1 ∷ []) $ group ! 4 $ use1 W (raw (PutSections 𝓤 H A mem run .pre to)) (goes ok) $ frame ! $ done !)
 
   -- what `add_store` has of the struct's fields at exit, at their machine values
   abbrev had : List ℕ → List Val × (List Val × Unit {0}) → Fml
@@ -153,7 +153,7 @@ module _ {M : Type 1} (𝓤 : URA M) (H : Heap 𝓤) (A : Atoms 𝓤) (W : Given
       nothing ! $ move ! (3 ∷ 0 ∷ []) $ fjoin ! $ move ! (2 ∷ 0 ∷ []) $ fjoin ! $
       owned ! u32 (Is u32) (uint-makes 𝓤 H A W w32) se _ (refl, se-fits) $ fjoin ! $ owned ! u32 (Is u32) (uint-makes 𝓤 H A W w32) st _ (refl, st-fits) $ fjoin ! $ move ! (1 ∷ 0 ∷ []) $ fjoin ! $ done !
 
-  module _ (C : Calls 𝓤 H) (Λ : Loops 𝓤 H) (fm : FmC 𝓤 H (W .laws) C) (known : Triple 𝓤 (C #listing·sink·put-store) (PutStore 𝓤 H A mem run)) where
+  module _ (C : Calls 𝓤 H) (Λ : Loops 𝓤 H) (fm : FmC 𝓤 H (W .laws) C) (known : Triple 𝓤 (C #listing·sections·put-sections) (PutSections 𝓤 H A mem run)) where
     walk : Is (T.the-row α) h (mach ∷ []) → Room u8 (length ys) → Is (ShrSlice (named 1) κ′ u8) xb (sb ∷ []) → Is (ShrSlice (named 2) κ″ u32) xw (sw ∷ []) → Listable wordsPerSection (storeWith st se (now xb) (now xw)) n
         → ent 𝓤 (onEntry 𝓤 H A add-store.signature κs (q, (q′, (q″, tt))) a vals) (WpFn 𝓤 H C Λ code.function (mach ∷ vint w32 st ∷ vint w32 se ∷ sb ∷ sw ∷ []) Post)
     walk g room pb pw ok =
@@ -165,11 +165,11 @@ module _ {M : Type 1} (𝓤 : URA M) (H : Heap 𝓤) (A : Atoms 𝓤) (W : Given
         assigns ! (of-opd ! (load ! (from ! (fld ! refl (stop !))) (look-in ! 14 (sub ! 1 refl (whole !))))) (from ! (stop !)) (init ! 4 refl (tt, record { fits = n-fits })) $
         assigns ! (addr ! (from ! (fld ! refl (fld ! refl (hop ! (look-in ! 14 (sub ! 0 refl (sub ! 0 refl (whole !)))) (stop !)))))) (from ! (stop !)) (init ! 2 refl (tt, tt)) $
         assigns ! (agg ! (and-then ! (load ! (from ! (stop !)) (look ! 2 refl)) (and-then ! (load ! (from ! (fld ! refl (fld ! refl (stop !)))) (look-in ! 14 (sub ! 1 refl (sub ! 0 refl (whole !))))) (no-more !)))) (from ! (stop !)) (init ! 0 refl (tt, (tt, (record { fits = room .0 }, tt)))) $
-        move ! (18 ∷ []) $ use1 W (raw (PutStore 𝓤 H A mem run .pre to) ⊛ (‵ OwnB ⊛ ‵ OwnW)) (apart ok) $ split ! $
-        calls-at ! fm (PutStore 𝓤 H A mem run) known to (and-then ! (load ! (from ! (stop !)) (look ! 2 refl)) (and-then ! (load ! (from ! (stop !)) (look ! 6 refl)) (and-then ! (load ! (from ! (stop !)) (look ! 14 refl)) (and-then ! (load ! (from ! (stop !)) (look ! 12 refl)) (and-then ! (load ! (from ! (stop !)) (look ! 10 refl)) (and-then ! (load ! (from ! (stop !)) (look ! 8 refl)) (no-more !))))))) (λ w.
-        use1 W (later (some (λ (r : ℕ). (Tokens ⊛ ‵ (usize .own r (w ∷ []))) ⊛ raw (ensured 𝓤 H A put-store.ended (put-store.clauses 𝓤 H A mem run) κs (x, (n, (st, (se, (xb, (xw, tt)))))) tt r)))) (id⊢ 𝓤 _) $ await ! tt $ pick ! (λ r.
-        -- what `put_store` ensures, at some last list
-        split ! $ move ! (1 ∷ []) $ use1 W (some (λ (zs : List ℕ × (Unit {0} × (Unit {0} × (Unit {0} × (Unit {0} × (Unit {0} × Unit {0})))))). ‵ (lasts put-store.ended κs (x, (n, (st, (se, (xb, (xw, tt)))))) zs) ⊛ raw (fact 𝓤 (Put ys n txt r (zs .0))))) (id⊢ 𝓤 _) $ pick ! (λ zs.
+        move ! (18 ∷ []) $ use1 W (raw (PutSections 𝓤 H A mem run .pre to) ⊛ (‵ OwnB ⊛ ‵ OwnW)) (apart ok) $ split ! $
+        calls-at ! fm (PutSections 𝓤 H A mem run) known to (and-then ! (load ! (from ! (stop !)) (look ! 2 refl)) (and-then ! (load ! (from ! (stop !)) (look ! 6 refl)) (and-then ! (load ! (from ! (stop !)) (look ! 14 refl)) (and-then ! (load ! (from ! (stop !)) (look ! 12 refl)) (and-then ! (load ! (from ! (stop !)) (look ! 10 refl)) (and-then ! (load ! (from ! (stop !)) (look ! 8 refl)) (no-more !))))))) (λ w.
+        use1 W (later (some (λ (r : ℕ). (Tokens ⊛ ‵ (usize .own r (w ∷ []))) ⊛ raw (ensured 𝓤 H A put-sections.ended (put-sections.clauses 𝓤 H A mem run) κs (x, (n, (st, (se, (xb, (xw, tt)))))) tt r)))) (id⊢ 𝓤 _) $ await ! tt $ pick ! (λ r.
+        -- what `put_sections` ensures, at some last list
+        split ! $ move ! (1 ∷ []) $ use1 W (some (λ (zs : List ℕ × (Unit {0} × (Unit {0} × (Unit {0} × (Unit {0} × (Unit {0} × Unit {0})))))). ‵ (lasts put-sections.ended κs (x, (n, (st, (se, (xb, (xw, tt)))))) zs) ⊛ raw (fact 𝓤 (Put ys n txt r (zs .0))))) (id⊢ 𝓤 _) $ pick ! (λ zs.
         split ! $ move ! (1 ∷ []) $ heard ! (Put ys n txt r (zs .0)) (λ e. fsplit ! $ fsplit ! $ move ! (1 ∷ []) $ feqL ! (λ l.
         -- [the last list; …; the tokens and the result; what the shared slices own; _8; …]
         move ! (2 ∷ []) $ split ! $ move ! (1 ∷ []) $ peeks ! usize (Is usize) (shows 𝓤 H A usize) r (w ∷ []) (λ is.
@@ -179,7 +179,7 @@ module _ {M : Type 1} (𝓤 : URA M) (H : Heap 𝓤) (A : Atoms 𝓤) (W : Given
         keep ! (1 ∷ 2 ∷ 0 ∷ 4 ∷ []) $ by ! (exits r w (zs .0) e l))))))))))))))))
 
 module _ {M : Type 1} (𝓤 : URA M) (H : Heap 𝓤) (A : Atoms 𝓤) (W : Given 𝓤 H A) (mem : Memory → SProp 𝓤) (run : Routine → Fun 𝓤) where
-  add-store-walks : (C : Calls 𝓤 H) (Λ : Loops 𝓤 H) → FmC 𝓤 H (W .laws) C → Triple 𝓤 (C #listing·sink·put-store) (PutStore 𝓤 H A mem run) → Walks 𝓤 H A add-store.ended stayed (WpFn 𝓤 H C Λ code.function) (add-store.clauses 𝓤 H A mem run)
+  add-store-walks : (C : Calls 𝓤 H) (Λ : Loops 𝓤 H) → FmC 𝓤 H (W .laws) C → Triple 𝓤 (C #listing·sections·put-sections) (PutSections 𝓤 H A mem run) → Walks 𝓤 H A add-store.ended stayed (WpFn 𝓤 H C Λ code.function) (add-store.clauses 𝓤 H A mem run)
   add-store-walks C Λ fm known = walked 𝓤 H A add-store.ended stayed (add-store.clauses 𝓤 H A mem run) (WpFn 𝓤 H C Λ code.function)
       (λ κs. (LL.vals (T.the-type (namedLft 3 0 tt κs)) (T′.the-laws (namedLft 3 0 tt κs)), (uint-vals w32, (uint-vals w32, (slice-vals, (slice-vals, tt))))))
       (λ κs. (LL.tells (T.the-type (namedLft 3 0 tt κs)) (T′.the-laws (namedLft 3 0 tt κs)), (uint-tells w32, (uint-tells w32, (shr-slice-tells (named 1) (κs .1 .0) u8, (shr-slice-tells (named 2) (κs .1 .1 .0) u32, tt))))))
@@ -187,7 +187,7 @@ module _ {M : Type 1} (𝓤 : URA M) (H : Heap 𝓤) (A : Atoms 𝓤) (W : Given
       let fields = LL.owed (T.the-type (namedLft 3 0 tt κs)) (T′.the-laws (namedLft 3 0 tt κs)) (a .0) _ (are .0) in
       walk 𝓤 H A W mem run (κs .0) (κs .1 .0) (κs .1 .1 .0) (qs .0) (qs .1 .0) (qs .1 .1 .0) (a .0 .text .ptr .0) (a .0 .text .ptr .1) (a .0 .text .name) (a .0 .text .now) (a .0 .count) (a .1 .0) (a .1 .1 .0) (fields .1 .0 .1) (are .1 .0 .1) (are .1 .1 .0 .1) (a .1 .1 .1 .0) (a .1 .1 .1 .1 .0) C Λ fm known (are .0) (fields .0 .0 .1) (are .1 .1 .1 .0) (are .1 .1 .1 .1 .0) ok))
 
-add-store-meets : {M : Type 1} (𝓤 : URA M) (H : Heap 𝓤) (A : Atoms 𝓤) → Given 𝓤 H A → (mem : Memory → SProp 𝓤) (run : Routine → Fun 𝓤) (𝓣 : Tables 𝓤 H) → Triple 𝓤 (𝓣 .C #listing·sink·put-store) (PutStore 𝓤 H A mem run)
+add-store-meets : {M : Type 1} (𝓤 : URA M) (H : Heap 𝓤) (A : Atoms 𝓤) → Given 𝓤 H A → (mem : Memory → SProp 𝓤) (run : Routine → Fun 𝓤) (𝓣 : Tables 𝓤 H) → Triple 𝓤 (𝓣 .C #listing·sections·put-sections) (PutSections 𝓤 H A mem run)
     → Meets 𝓤 H A add-store.signature (WpFn 𝓤 H (𝓣 .C) (𝓣 .Λ) code.function) (add-store.spec 𝓤 H A mem run)
 add-store-meets 𝓤 H A W mem run 𝓣 known =
     walk-meets 𝓤 H A add-store.ended stayed W (sink-gave-goes 𝓤 H A W, (goes-none 𝓤 H A W 3 (λ _. u32) yes (λ κs x f. refl), (goes-none 𝓤 H A W 3 (λ _. u32) yes (λ κs x f. refl), (goes-none-slice 𝓤 H A W 3 (1 ∷ []) tt (plain (λ _. u8)) yes, (goes-none-slice 𝓤 H A W 3 (2 ∷ []) tt (plain (λ _. u32)) yes, tt))))) (add-store.clauses 𝓤 H A mem run)
@@ -199,4 +199,4 @@ add-store-spec 𝓤 H 𝓜 𝓖 𝓡 =
     entered 𝓤 H (tripleOf 𝓤 H (𝓖 .A) add-store.signature (add-store.spec 𝓤 H (𝓖 .A) (𝓜 .mem) (𝓡 .run)))
     (tables 𝓤 H 𝓜 𝓡 code.env .C) (tables 𝓤 H 𝓜 𝓡 code.env .Λ) #listing·sink·add-store code.function (code.unfolded 𝓤 H 𝓜 𝓡)
     (add-store-meets 𝓤 H (𝓖 .A) (givenOf 𝓤 H 𝓜 𝓖) (𝓜 .mem) (𝓡 .run) (tablesOf 𝓤 H 𝓜 (tables 𝓤 H 𝓜 𝓡 code.env))
-    (cited 𝓤 H (PutStore 𝓤 H (𝓖 .A) (𝓜 .mem) (𝓡 .run)) 𝓜 𝓡 code.env #listing·sink·put-store put-store-def.routine code.calls-listing·sink·put-store (put-store-thm.met 𝓤 H 𝓜 𝓖 𝓡)))
+    (cited 𝓤 H (PutSections 𝓤 H (𝓖 .A) (𝓜 .mem) (𝓡 .run)) 𝓜 𝓡 code.env #listing·sections·put-sections put-sections-def.routine code.calls-listing·sections·put-sections (put-sections-thm.met 𝓤 H 𝓜 𝓖 𝓡)))
