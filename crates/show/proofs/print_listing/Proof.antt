@@ -7,10 +7,6 @@ use Rattle.listing.specs.Answer.{listedReply}
 use Rattle.show.proofs.Fits.{listed-fits}
 use Rattle.show.proofs.print_listing.Statement.{statement}
 use Rattle.show.proofs.print_listing.Tie as tie
-use Rattle.show.proofs.print_listing.Reads as reads
-use Rattle.show.proofs.print_listing.Lts as lts
-use Rattle.io.proofs.write_all.Reads as write-all-reads
-use Rattle.listing.proofs.write_asm.Reads as write-asm-reads
 
 write-asm-requires : tie.Need-write-asm-requires
 write-asm-requires c κs = search needs
@@ -29,12 +25,15 @@ returns c = search needs
 
 slice-reshare-prefix-write-all : tie.Need-slice-reshare-prefix-write-all
 slice-reshare-prefix-write-all c =
-    omega (arith, listed-fits _ _ _ _ (sym (ap listedReply (c .before .length .given .1)) ∙ c .before .before .before .before .before .write-asm .ensures .0))
+    let told = c .before in
+    let listed = told .before .before .before .before in
+    omega (arith, listed-fits _ _ _ _ (sym (ap listedReply (told .length .given .1)) ∙ listed .write-asm .ensures .0))
 
 slice-aggregate-write-all : tie.Need-slice-aggregate-write-all
 slice-aggregate-write-all c =
-    simp length-take
-    (omega (arith, listed-fits _ _ _ _ (sym (ap listedReply (c .before .before .length .given .1)) ∙ c .before .before .before .before .before .before .write-asm .ensures .0)))
+    let told = c .before .before in
+    let listed = told .before .before .before .before in
+    simp length-take (omega (arith, listed-fits _ _ _ _ (sym (ap listedReply (told .length .given .1)) ∙ listed .write-asm .ensures .0)))
 
 write-all-requires : tie.Need-write-all-requires
 write-all-requires c κs = search needs
