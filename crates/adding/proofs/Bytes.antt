@@ -17,12 +17,14 @@ use Rattle.adding.specs.Adding.{kindNumber, bytesSection, lastKindIs}
 use Rattle.adding.specs.declared.BytesKind.{BytesKind}
 use Rattle.adding.specs.declared.BytesKind.the-variants.{Ops, Data}
 
-pub pass-is : (k : BytesKind) (bs : List ℕ) (st : Store) → bytesOver (st .bytes) (st .storedBytes) (length bs) ≡ bytesPass (bytesSection k bs) st
+pub pass-is : (k : BytesKind) (bs : List ℕ) (st : Store)
+    → bytesOver (st .bytes) (st .storedBytes) (length bs) ≡ bytesPass (bytesSection k bs) st
 unfolding bytesPass
 pass-is Ops bs st = refl
 pass-is Data bs st = refl
 
-pub joins-is : (w : ℕ) (k : BytesKind) (bs : List ℕ) (st : Store) → lastKindIs w (st .sections) (st .words) (kindNumber k) ≡ joins w (bytesSection k bs) st
+pub joins-is : (w : ℕ) (k : BytesKind) (bs : List ℕ) (st : Store)
+    → lastKindIs w (st .sections) (st .words) (kindNumber k) ≡ joins w (bytesSection k bs) st
 unfolding joins lastKindIs
 joins-is w Ops bs st = refl
 joins-is w Data bs st = refl

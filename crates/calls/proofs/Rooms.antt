@@ -4,7 +4,8 @@ use Prim.Native.Nat.{ℕ, _+_, _*_, _≤_, _<_}
 use native.Mathlib.Omega.{arith}
 use native.Mathlib.Numerals.{add-one, add-two}
 use mathlib.Core.Path.{_≡_, refl, _∙_}
-use mathlib.Core.Bool.{Bool, true, false, _||_, true≢false}
+use mathlib.Core.Bool.{Bool, true, false}
+use mathlib.Mathlib.Data.Bool.Basic.{or-eq-false-eq-eq-false-and-eq-false as or-false}
 use mathlib.Core.List.{List, [], _∷_, append-assoc}
 use lib.ListN.{length, take, drop, set}
 use lib.Seq.{sets-eq}
@@ -45,15 +46,13 @@ left-slice w n words h =
 -- where a section is left, it fits limit and slice
 pub left-fits : (w n : ℕ) (words : List ℕ) → noSectionLeft w n words ≡ false → (n + 1 ≤ maxSections) × (w * (n + 1) ≤ length words)
 unfolding noSectionLeft
-left-fits w n words e = go (ltb maxSections (n + 1)) (ltb (length words) (w * (n + 1))) refl refl e
-  where
-    go : (s t : Bool) → ltb maxSections (n + 1) ≡ s → ltb (length words) (w * (n + 1)) ≡ t → (s || t) ≡ false → (n + 1 ≤ maxSections) × (w * (n + 1) ≤ length words)
-    go false false p q h = (ltb-false maxSections (n + 1) p, ltb-false (length words) (w * (n + 1)) q)
-    go false true p q h = absurd (true≢false h)
-    go true t p q h = absurd (true≢false h)
+left-fits w n words e =
+    let both = or-false (ltb maxSections (n + 1)) (ltb (length words) (w * (n + 1))) .0 e in
+    (ltb-false maxSections (n + 1) (both .0), ltb-false (length words) (w * (n + 1)) (both .1))
 
 -- three stores are the record written over the words from i on
-pub three-stores :
-    (l : List ℕ) (i : ℕ) (r : StoredSection) → i + 3 ≤ length l
+pub three-stores : (l : List ℕ) (i : ℕ) (r : StoredSection) → i + 3 ≤ length l
     → set (set (set l i (r .kind)) (i + 1) (r .first)) (i + 2) (r .second) ≡ over l i (recordWords 3 r)
-three-stores l i r h = rw (add-one i, add-two i) (sets-eq (r .kind ∷ r .first ∷ r .second ∷ []) l i h ∙ append-assoc (take i l) (r .kind ∷ r .first ∷ r .second ∷ []) (drop (i + 3) l))
+three-stores l i r h =
+    let three : List ℕ = r .kind ∷ r .first ∷ r .second ∷ [] in
+    rw (add-one i, add-two i) (sets-eq three l i h ∙ append-assoc (take i l) three (drop (i + 3) l))

@@ -31,7 +31,8 @@ opcode-before digits rest k op h =
     let l : List ℕ = 0 ∷ (digits ++ rest) in
     let small : k < length l = omega (arith, length-append digits rest) in
     let stored : drop k (set l k op) ≡ op ∷ drop k (digits ++ rest) =
-    ap (λ (j : ℕ). drop k (set l j op)) (sym (add-zero k)) ∙ drop-set-add k l 0 op ∙ ap (λ (x : List ℕ). set x 0 op) (drop-cons l k 0 small) in
+    ap (λ (j : ℕ). drop k (set l j op)) (sym (add-zero k)) ∙ drop-set-add k l 0 op
+    ∙ ap (λ (x : List ℕ). set x 0 op) (drop-cons l k 0 small) in
     let more : length digits + 1 - k ≡ suc (length digits - k) = omega arith in
     rw (stored, more, drop-append-le k digits rest h)
     (ap (λ (x : List ℕ). op ∷ x) (take-at (drop k digits) rest (length digits - k) (length-drop k digits)))

@@ -29,12 +29,14 @@ module _ (w : ℕ) (s : Section) (st : Store) where
     add-bytes-full b = (rw (sound, b), (rw (sound, b), rw (sound, b)))
 
     module _ (room : bytesPass s st ≡ false) where
-      pub add-joined : joins w s st ≡ true → Adds w s st (stateNumber (countsOf (joined w s st))) (joined w s st .bytes) (joined w s st .words)
+      pub add-joined : joins w s st ≡ true
+          → Adds w s st (stateNumber (countsOf (joined w s st))) (joined w s st .bytes) (joined w s st .words)
       unfolding addReply addAfter roomReply sectionPasses withSection
       add-joined j = (rw (sound, room, j), (rw (sound, room, j), rw (sound, room, j)))
 
       module _ (apart : joins w s st ≡ false) where
-        pub add-sections-full : noSectionLeft w (st .sections) (st .words) ≡ true → Adds w s st (packed sectionsFull 0 0) (st .bytes) (st .words)
+        pub add-sections-full : noSectionLeft w (st .sections) (st .words) ≡ true
+            → Adds w s st (packed sectionsFull 0 0) (st .bytes) (st .words)
         unfolding addReply addAfter roomReply sectionPasses
         add-sections-full f = (rw (sound, room, apart, f), (rw (sound, room, apart, f), rw (sound, room, apart, f)))
 
@@ -44,7 +46,8 @@ module _ (w : ℕ) (s : Section) (st : Store) where
         add-appended f = (rw (sound, room, apart, f), (rw (sound, room, apart, f), rw (sound, room, apart, f)))
 
 -- what adding a section gives, of the same section written otherwise
-pub add-same : (w : ℕ) (s t : Section) (st : Store) (answer : ℕ) (bs ws : List ℕ) → s ≡ t → Adds w s st answer bs ws → Adds w t st answer bs ws
+pub add-same : (w : ℕ) (s t : Section) (st : Store) (answer : ℕ) (bs ws : List ℕ) → s ≡ t → Adds w s st answer bs ws
+    → Adds w t st answer bs ws
 add-same w s t st answer bs ws e a = subst (λ (x : Section). Adds w x st answer bs ws) e a
 
 -- ---- the calls: refused by their own numbers, or what adding their section gives
@@ -62,7 +65,8 @@ module _ (w : ℕ) (p : Push) (st : Store) where
   unfolding pushReply pushAfter
   push-bad-word d b = (rw (d, b), (rw (d, b), rw (d, b)))
 
-  pub push-large-mark : hasBadDepth p ≡ false → hasBadWord p ≡ false → hasLargeMark p ≡ true → Pushes w p st (packed largeMark 0 0) (st .bytes) (st .words)
+  pub push-large-mark : hasBadDepth p ≡ false → hasBadWord p ≡ false → hasLargeMark p ≡ true
+      → Pushes w p st (packed largeMark 0 0) (st .bytes) (st .words)
   unfolding pushReply pushAfter
   push-large-mark d b m = (rw (d, b, m), (rw (d, b, m), rw (d, b, m)))
 

@@ -94,10 +94,12 @@ module _ (n : ℕ) where
       go false p true q false r h = absurd (true≢false (sym h))
       go false p false q u r h = absurd (true≢false (sym h))
 
-  pub direct-formed : isForm n ≡ true → (m : ℕ) → storedSection directKind m n ≡ referenceWords (formed (direct m) (setSizeOf (n % 8)) (leb 8 n))
+  pub direct-formed : isForm n ≡ true → (m : ℕ)
+      → storedSection directKind m n ≡ referenceWords (formed (direct m) (setSizeOf (n % 8)) (leb 8 n))
   unfolding referenceWords
   direct-formed e m = ap (storedSection directKind m) (sym (form-named e .number))
 
-  pub delta-formed : isForm n ≡ true → (a b : ℕ) → storedSection (formKind n) a b ≡ referenceWords (formed (delta a b) (setSizeOf (n % 8)) (leb 8 n))
+  pub delta-formed : isForm n ≡ true → (a b : ℕ)
+      → storedSection (formKind n) a b ≡ referenceWords (formed (delta a b) (setSizeOf (n % 8)) (leb 8 n))
   unfolding referenceWords
   delta-formed e a b = ap (λ (k : ℕ). storedSection k a b) (form-named e .kind)

@@ -56,7 +56,8 @@ module _ (state : ℕ) (bytes words : List ℕ) where
 
   -- a call that adds a mark or a reference, by its words
   module _ (p : Push) (good : Judged p) (alone : StandsAlone (added p)) {x : StoredSection} (is : x ≡ wordsOf 0 (added p)) where
-    pub put : {answer : ℕ} {ws : List ℕ} → WordsAdded x (storeIn state bytes words) answer ws → Leaves p (storeIn state bytes words) answer ws
+    pub put : {answer : ℕ} {ws : List ℕ} → WordsAdded x (storeIn state bytes words) answer ws
+        → Leaves p (storeIn state bytes words) answer ws
     put made =
         let st = storeIn state bytes words in
         let reply = made .0 ∙ ap builtNumber (alone-reply wordsPerSection (added p) x st alone is) in

@@ -40,10 +40,12 @@ store-at c = storeOf (c .counts-in .result) (now (entry c .args .bytes)) (now (e
 
 -- the counts are the state's
 by-state : (c : tie.After-counts-in) (answer : ℕ) (bs ws : List ℕ) → Adds wordsPerSection (section-of (entry c)) (store-at c) answer bs ws
-    → Adds wordsPerSection (section-of (entry c)) (storeIn (entry c .args .state) (now (entry c .args .bytes)) (now (entry c .args .words))) answer bs ws
+    → Adds wordsPerSection (section-of (entry c))
+    (storeIn (entry c .args .state) (now (entry c .args .bytes)) (now (entry c .args .words))) answer bs ws
 by-state c answer bs ws all =
     let a = entry c .args in
-    subst (λ (k : Assembler). Adds wordsPerSection (section-of (entry c)) (storeOf k (now (a .bytes)) (now (a .words))) answer bs ws) (c .counts-in .ensures) all
+    subst (λ (k : Assembler). Adds wordsPerSection (section-of (entry c)) (storeOf k (now (a .bytes)) (now (a .words))) answer bs ws)
+    (c .counts-in .ensures) all
 
 -- the test for 6 found nothing
 abbrev counted : tie.After-enum-told → tie.After-counts-in
@@ -59,14 +61,17 @@ words-fit c = good-words wordsPerSection (store-at (counted c)) (sound-counts wo
 abbrev tested : tie.Else1 → tie.After-enum-told
 tested c = c .before .before .before
 
-room : (c : tie.Else1) → bytesPass (section-of (entry (counted (tested c)))) (store-at (counted (tested c))) ≡ false
+abbrev counts : tie.Else1 → tie.After-counts-in
+counts c = counted (tested c)
+
+room : (c : tie.Else1) → bytesPass (section-of (entry (counts c))) (store-at (counts c)) ≡ false
 room c =
-    let at-counts = counted (tested c) in
+    let at-counts = counts c in
     let a = entry at-counts .args in
     sym (pass-is (a .kind) (now (a .added)) (store-at at-counts)) ∙ sym (c .before .bytes-pass .ensures) ∙ c .if1 .left
 
 below : (c : tie.Else1)
-    → store-at (counted (tested c)) .storedBytes + length (now (entry (counted (tested c)) .args .added)) ≤ min (length (store-at (counted (tested c)) .bytes)) maxBytes
+    → store-at (counts c) .storedBytes + length (now (entry (counts c) .args .added)) ≤ min (length (store-at (counts c) .bytes)) maxBytes
 below c = ltb-false _ _ (sym (c .before .bytes-pass .ensures) ∙ c .if1 .left)
 
 -- whether the last section is extended
@@ -74,9 +79,9 @@ abbrev fitting : tie.After-last-kind-is → tie.Else1
 fitting c = c .before .before .before
 
 joining : (c : tie.After-last-kind-is)
-    → c .last-kind-is .result ≡ joins wordsPerSection (section-of (entry (counted (tested (fitting c))))) (store-at (counted (tested (fitting c))))
+    → c .last-kind-is .result ≡ joins wordsPerSection (section-of (entry (counts (fitting c)))) (store-at (counts (fitting c)))
 joining c =
-    let at-counts = counted (tested (fitting c)) in
+    let at-counts = counts (fitting c) in
     let a = entry at-counts .args in
     c .last-kind-is .ensures
     ∙ ap (lastKindIs wordsPerSection (store-at at-counts .sections) (now (a .words))) (c .before .before .kind-number .ensures)
@@ -87,7 +92,7 @@ abbrev asked : tie.Else3 → tie.After-last-kind-is
 asked c = c .before .before .before .before
 
 left : (c : tie.Else3)
-    → noSectionLeft wordsPerSection (store-at (counted (tested (fitting (asked c)))) .sections) (store-at (counted (tested (fitting (asked c)))) .words) ≡ false
+    → noSectionLeft wordsPerSection (store-at (counts (fitting (asked c))) .sections) (store-at (counts (fitting (asked c))) .words) ≡ false
 left c = sym (c .before .no-section-left .ensures) ∙ c .if3 .left
 
 counts-in-requires : tie.Need-counts-in-requires
@@ -113,7 +118,10 @@ returns c =
     let at-section = c .before .before in
     let checked = at-section .before .before in
     let at-counts = checked .before .before .before in
-    let all = add-damaged wordsPerSection (section-of (entry at-counts)) (store-at at-counts) _ (sym (checked .check-last .ensures) ∙ at-section .section .given .1) in
+    let all =
+    add-damaged wordsPerSection (section-of (entry at-counts)) (store-at at-counts) _
+    (sym (checked .check-last .ensures) ∙ at-section .section .given .1)
+    in
     by-state at-counts _ _ _ (c .refusal-number .ensures ∙ all .0, all .1)
 
 enum-told : tie.Need-enum-told
@@ -180,11 +188,15 @@ returns-3 c =
     let wrote = ended .before .before .before .before in
     let joins-it = wrote .before .before in
     let fits = fitting (joins-it .before) in
-    let at-counts = counted (tested fits) in
+    let at-counts = counts fits in
     let a = entry at-counts .args in
     let whole = has-room (now (a .bytes)) (store-at at-counts .storedBytes) (now (a .added)) (omega (arith, below fits)) in
-    let all = bytes-joined wordsPerSection (a .kind) (now (a .added)) (store-at at-counts) (sound (tested fits)) (room fits) (sym (joining (joins-it .before)) ∙ joins-it .if2 .taken) in
-    by-state at-counts _ _ _ (c .state-of .ensures ∙ all .0, (wrote .write-bytes .ensures ∙ whole ∙ all .1 .0, ended .set-end .ensures ∙ all .1 .1))
+    let all =
+    bytes-joined wordsPerSection (a .kind) (now (a .added)) (store-at at-counts) (sound (tested fits)) (room fits)
+    (sym (joining (joins-it .before)) ∙ joins-it .if2 .taken)
+    in
+    by-state at-counts _ _ _
+    (c .state-of .ensures ∙ all .0, (wrote .write-bytes .ensures ∙ whole ∙ all .1 .0, ended .set-end .ensures ∙ all .1 .1))
 
 no-section-left-requires : tie.Need-no-section-left-requires
 no-section-left-requires c κs = search needs
@@ -203,7 +215,7 @@ returns-4 c =
     let full = c .before in
     let apart = full .before .before .before in
     let fits = fitting (apart .before) in
-    let at-counts = counted (tested fits) in
+    let at-counts = counts fits in
     let all =
     add-sections-full wordsPerSection (section-of (entry at-counts)) (store-at at-counts) (sound (tested fits)) (room fits)
     (sym (joining (apart .before)) ∙ apart .if2 .left) (sym (full .before .no-section-left .ensures) ∙ full .if3 .taken)
@@ -242,11 +254,14 @@ returns-5 c =
     let free = wrote .before .before in
     let found = asked free in
     let fits = fitting found in
-    let at-counts = counted (tested fits) in
+    let at-counts = counts fits in
     let a = entry at-counts .args in
     let st = store-at at-counts in
     let whole = has-room (now (a .bytes)) (st .storedBytes) (now (a .added)) (omega (arith, below fits)) in
-    let all = bytes-appended wordsPerSection (a .kind) (now (a .added)) st (sound (tested fits)) (room fits) (sym (joining found) ∙ free .before .before .before .if2 .left) (left free) in
+    let all =
+    bytes-appended wordsPerSection (a .kind) (now (a .added)) st (sound (tested fits)) (room fits)
+    (sym (joining found) ∙ free .before .before .before .if2 .left) (left free)
+    in
     let named =
     ap
     (λ (k : ℕ).
@@ -254,7 +269,8 @@ returns-5 c =
     (recordWords wordsPerSection (storedSection k (st .storedBytes) (st .storedBytes + length (now (a .added))))))
     (found .before .before .kind-number .ensures)
     in
-    by-state at-counts _ _ _ (c .state-of2 .ensures ∙ all .0, (wrote .write-bytes2 .ensures ∙ whole ∙ all .1 .0, appended .append-section .ensures ∙ named ∙ all .1 .1))
+    by-state at-counts _ _ _
+    (c .state-of2 .ensures ∙ all .0, (wrote .write-bytes2 .ensures ∙ whole ∙ all .1 .0, appended .append-section .ensures ∙ named ∙ all .1 .1))
 
 pub add-bytes-spec : {M : Type 1} → statement M
 add-bytes-spec =

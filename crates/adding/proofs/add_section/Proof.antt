@@ -54,7 +54,10 @@ sound c = sym (c .before .before .check-last .ensures) ∙ c .enum-told .given .
 abbrev tested : tie.Else1 → tie.After-enum-told
 tested c = c .before .before .before
 
-left : (c : tie.Else1) → noSectionLeft wordsPerSection (store-at (counted (tested c)) .sections) (store-at (counted (tested c)) .words) ≡ false
+abbrev counts : tie.Else1 → tie.After-counts-in
+counts c = counted (tested c)
+
+left : (c : tie.Else1) → noSectionLeft wordsPerSection (store-at (counts c) .sections) (store-at (counts c) .words) ≡ false
 left c = sym (c .before .no-section-left .ensures) ∙ c .if1 .left
 
 counts-in-requires : tie.Need-counts-in-requires
@@ -77,7 +80,10 @@ returns c =
     let at-section = c .before .before in
     let checked = at-section .before .before in
     let at-counts = checked .before .before in
-    let all = words-damaged wordsPerSection (words-of (entry at-counts)) (store-at at-counts) _ (sym (checked .check-last .ensures) ∙ at-section .section .given .1) in
+    let all =
+    words-damaged wordsPerSection (words-of (entry at-counts)) (store-at at-counts) _
+    (sym (checked .check-last .ensures) ∙ at-section .section .given .1)
+    in
     by-state at-counts _ _ _ (c .refusal-number .ensures) all
 
 enum-told : tie.Need-enum-told
@@ -97,7 +103,10 @@ returns-2 c =
     let full = c .before in
     let told = full .before .before .before in
     let at-counts = counted told in
-    let all = words-full wordsPerSection (words-of (entry at-counts)) (store-at at-counts) (sound told) (sym (full .before .no-section-left .ensures) ∙ full .if1 .taken) in
+    let all =
+    words-full wordsPerSection (words-of (entry at-counts)) (store-at at-counts) (sound told)
+    (sym (full .before .no-section-left .ensures) ∙ full .if1 .taken)
+    in
     by-state at-counts _ _ _ (c .refusal-number2 .ensures) all
 
 append-section-requires : tie.Need-append-section-requires
@@ -118,7 +127,7 @@ returns-3 : tie.Need-returns-3
 returns-3 c =
     let wrote = c .before .before .before in
     let free = wrote .before .before in
-    let at-counts = counted (tested free) in
+    let at-counts = counts free in
     let all = words-appended wordsPerSection (words-of (entry at-counts)) (store-at at-counts) (sound (tested free)) (left free) in
     by-state at-counts _ _ _ (c .state-of .ensures) (all .0, wrote .append-section .ensures ∙ all .1)
 

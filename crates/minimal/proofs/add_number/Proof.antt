@@ -38,7 +38,8 @@ returns c =
     let v = a .value in
     let fits : v < 2 ^ 64 = omega arith in
     let same = ap number (eight .eight-bytes .ensures) ∙ number-bigEndian 8 v fits in
-    add-same wordsPerSection _ (ops (minimalPush v)) (storeIn (a .state) (now (a .bytes)) (now (a .words))) _ _ _ (ap (λ (n : ℕ). ops (minimalPush n)) same) (added .add-push .ensures)
+    add-same wordsPerSection _ (ops (minimalPush v)) (storeIn (a .state) (now (a .bytes)) (now (a .words))) _ _ _
+    (ap (λ (n : ℕ). ops (minimalPush n)) same) (added .add-push .ensures)
 
 pub add-number-spec : {M : Type 1} → statement M
 add-number-spec =

@@ -53,7 +53,8 @@ returns c =
     let digits = now (a .digits) in
     let all : AllBytes digits = λ i. omega (arith, known .shared-slice-known .given i) in
     let push = made .push-bytes .ensures .1 ∙ minimal-of digits (scanned .leading-zeros .result) (start .pre) all (scanned .leading-zeros .ensures) in
-    add-same wordsPerSection _ (ops (minimalPush (number digits))) (storeIn (a .state) (now (a .bytes)) (now (a .words))) _ _ _ (ap ops push) (added .add-bytes .ensures)
+    add-same wordsPerSection _ (ops (minimalPush (number digits))) (storeIn (a .state) (now (a .bytes)) (now (a .words))) _ _ _
+    (ap ops push) (added .add-bytes .ensures)
 
 pub add-push-spec : {M : Type 1} → statement M
 add-push-spec =

@@ -45,7 +45,8 @@ returns-2 c =
     let left = judged .before .before .before .before in
     let t = tried (left .before) in
     let a = entry t .args in
-    add-judged (a .state) (now (a .bytes)) (now (a .words)) (ops (a .op ∷ [])) (t .begin-op .ensures) (left .if1 .left) (judged .add-bytes .ensures)
+    add-judged (a .state) (now (a .bytes)) (now (a .words)) (ops (a .op ∷ [])) (t .begin-op .ensures) (left .if1 .left)
+    (judged .add-bytes .ensures)
 
 pub begin-op-spec : {M : Type 1} → statement M
 begin-op-spec =

@@ -53,7 +53,8 @@ returns-2 c =
     let t = tried (c .before) in
     let deep = tested t in
     let a = entry deep .args in
-    pushed (a .state) (now (a .bytes)) (now (a .words)) (pushDup (a .depth)) (judged deep) refl (t .extend-op .ensures .done (c .if2 .taken))
+    pushed (a .state) (now (a .bytes)) (now (a .words)) (pushDup (a .depth)) (judged deep) refl
+    (t .extend-op .ensures .done (c .if2 .taken))
 
 begin-op-requires : tie.Need-begin-op-requires
 begin-op-requires c κs = search needs
@@ -71,7 +72,8 @@ returns-3 c =
     let t = tried (left .before) in
     let deep = tested t in
     let a = entry deep .args in
-    push-judged (a .state) (now (a .bytes)) (now (a .words)) (pushDup (a .depth)) (judged deep) refl (t .extend-op .ensures) (left .if2 .left)
+    push-judged (a .state) (now (a .bytes)) (now (a .words)) (pushDup (a .depth)) (judged deep) refl (t .extend-op .ensures)
+    (left .if2 .left)
     (begun .begin-op .ensures)
 
 pub push-dup-spec : {M : Type 1} → statement M

@@ -130,7 +130,8 @@ returns-4 c =
     let s = swapped t in
     let deep = tested (neither s) in
     let a = entry deep .args in
-    pushed (a .state) (now (a .bytes)) (now (a .words)) (pushExchange (a .n) (a .m)) (judged deep) (three s) (t .extend-ops .ensures .done (c .if4 .taken))
+    pushed (a .state) (now (a .bytes)) (now (a .words)) (pushExchange (a .n) (a .m)) (judged deep) (three s)
+    (t .extend-ops .ensures .done (c .if4 .taken))
 
 slice-aggregate-add-bytes : tie.Need-slice-aggregate-add-bytes
 slice-aggregate-add-bytes c = search needs
@@ -152,7 +153,8 @@ returns-5 c =
     let s = swapped t in
     let deep = tested (neither s) in
     let a = entry deep .args in
-    push-judged (a .state) (now (a .bytes)) (now (a .words)) (pushExchange (a .n) (a .m)) (judged deep) (three s) (t .extend-ops .ensures) (left .if4 .left)
+    push-judged (a .state) (now (a .bytes)) (now (a .words)) (pushExchange (a .n) (a .m)) (judged deep) (three s) (t .extend-ops .ensures)
+    (left .if4 .left)
     (added-now .add-bytes .ensures)
 
 pub push-exchange-spec : {M : Type 1} → statement M

@@ -28,7 +28,8 @@ returns : tie.Need-returns
 returns c =
     let t = tried (c .before) in
     let a = entry t .args in
-    pushed (a .state) (now (a .bytes)) (now (a .words)) (pushOpByte (a .byte)) (refl, (refl, refl)) refl (t .extend-op .ensures .done (c .if1 .taken))
+    pushed (a .state) (now (a .bytes)) (now (a .words)) (pushOpByte (a .byte)) (refl, (refl, refl)) refl
+    (t .extend-op .ensures .done (c .if1 .taken))
 
 begin-op-requires : tie.Need-begin-op-requires
 begin-op-requires c κs = search needs
@@ -45,7 +46,8 @@ returns-2 c =
     let left = begun .before .before .before in
     let t = tried (left .before) in
     let a = entry t .args in
-    push-judged (a .state) (now (a .bytes)) (now (a .words)) (pushOpByte (a .byte)) (refl, (refl, refl)) refl (t .extend-op .ensures) (left .if1 .left)
+    push-judged (a .state) (now (a .bytes)) (now (a .words)) (pushOpByte (a .byte)) (refl, (refl, refl)) refl (t .extend-op .ensures)
+    (left .if1 .left)
     (begun .begin-op .ensures)
 
 pub push-op-byte-spec : {M : Type 1} → statement M

@@ -67,7 +67,8 @@ returns-2 c =
     let t = tried (c .before) in
     let s = swapped t in
     let a = entry (tested s) .args in
-    pushed (a .state) (now (a .bytes)) (now (a .words)) (pushSwap (a .depth)) (judged (tested s)) (swap s) (t .extend-op .ensures .done (c .if2 .taken))
+    pushed (a .state) (now (a .bytes)) (now (a .words)) (pushSwap (a .depth)) (judged (tested s)) (swap s)
+    (t .extend-op .ensures .done (c .if2 .taken))
 
 begin-op-requires : tie.Need-begin-op-requires
 begin-op-requires c κs = search needs
@@ -85,7 +86,8 @@ returns-3 c =
     let t = tried (left .before) in
     let s = swapped t in
     let a = entry (tested s) .args in
-    push-judged (a .state) (now (a .bytes)) (now (a .words)) (pushSwap (a .depth)) (judged (tested s)) (swap s) (t .extend-op .ensures) (left .if2 .left)
+    push-judged (a .state) (now (a .bytes)) (now (a .words)) (pushSwap (a .depth)) (judged (tested s)) (swap s) (t .extend-op .ensures)
+    (left .if2 .left)
     (begun .begin-op .ensures)
 
 pub push-swap-spec : {M : Type 1} → statement M

@@ -43,10 +43,12 @@ abbrev tested : tie.After-delta-kind → tie.Else2
 tested c = c .before
 
 words : (c : tie.After-delta-kind)
-    → storedSection (c .delta-kind .result) (entry (tested c) .args .start) (entry (tested c) .args .end) ≡ referenceWords (reference-of (entry (tested c)))
+    → storedSection (c .delta-kind .result) (entry (tested c) .args .start) (entry (tested c) .args .end)
+    ≡ referenceWords (reference-of (entry (tested c)))
 words c =
     let a = entry (tested c) .args in
-    ap (λ (k : ℕ). storedSection k (a .start) (a .end)) (c .delta-kind .ensures) ∙ delta-formed (a .form) (is-one (tested c .before .before)) (a .start) (a .end)
+    ap (λ (k : ℕ). storedSection k (a .start) (a .end)) (c .delta-kind .ensures)
+    ∙ delta-formed (a .form) (is-one (tested c .before .before)) (a .start) (a .end)
 
 -- what was tried
 abbrev tried : tie.After-slice-known2 → tie.After-put-section
@@ -61,7 +63,8 @@ is-form-requires c κs = search needs
 returns : tie.Need-returns
 returns c =
     let a = c .before .before .before .before .args in
-    unnamed (a .form) (sym (c .before .is-form .ensures) ∙ not-true _ (c .if1 .taken)) wordsPerSection _ (storeIn (a .state) (now (a .bytes)) (now (a .words)))
+    unnamed (a .form) (sym (c .before .is-form .ensures) ∙ not-true _ (c .if1 .taken)) wordsPerSection _
+    (storeIn (a .state) (now (a .bytes)) (now (a .words)))
 
 is-large-delta-requires : tie.Need-is-large-delta-requires
 is-large-delta-requires c κs = search needs
@@ -75,7 +78,10 @@ returns-2 c =
     let form = large .before .before in
     let a = named form .args in
     let st = storeIn (a .state) (now (a .bytes)) (now (a .words)) in
-    let all = push-large-mark wordsPerSection (pushReference (reference-of (named form))) st refl refl (sym (large .before .is-large-delta .ensures) ∙ large .if2 .taken) in
+    let all =
+    push-large-mark wordsPerSection (pushReference (reference-of (named form))) st refl refl
+    (sym (large .before .is-large-delta .ensures) ∙ large .if2 .taken)
+    in
     by-form (a .form) (is-one form) (delta (a .start) (a .end)) st (c .refusal-number .ensures ∙ all .0, all .1 .1)
 
 delta-kind-requires : tie.Need-delta-kind-requires

@@ -49,7 +49,8 @@ is-form-requires c κs = search needs
 returns : tie.Need-returns
 returns c =
     let a = c .before .before .before .before .args in
-    unnamed (a .form) (sym (c .before .is-form .ensures) ∙ not-true _ (c .if1 .taken)) wordsPerSection _ (storeIn (a .state) (now (a .bytes)) (now (a .words)))
+    unnamed (a .form) (sym (c .before .is-form .ensures) ∙ not-true _ (c .if1 .taken)) wordsPerSection _
+    (storeIn (a .state) (now (a .bytes)) (now (a .words)))
 
 is-large-requires : tie.Need-is-large-requires
 is-large-requires c κs = search needs

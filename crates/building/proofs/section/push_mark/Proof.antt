@@ -50,7 +50,8 @@ returns-2 c =
     let t = tried (c .before) in
     let small = tested t in
     let a = entry small .args in
-    put-done (a .state) (now (a .bytes)) (now (a .words)) (pushMark (a .mark)) (judged small) tt refl (t .put-section .ensures) (c .if2 .taken)
+    put-done (a .state) (now (a .bytes)) (now (a .words)) (pushMark (a .mark)) (judged small) tt refl (t .put-section .ensures)
+    (c .if2 .taken)
 
 push-words-requires : tie.Need-push-words-requires
 push-words-requires c κs = search needs
@@ -65,7 +66,8 @@ returns-3 c =
     let t = tried (left .before) in
     let small = tested t in
     let a = entry small .args in
-    put-judged (a .state) (now (a .bytes)) (now (a .words)) (pushMark (a .mark)) (judged small) tt refl (t .put-section .ensures) (left .if2 .left)
+    put-judged (a .state) (now (a .bytes)) (now (a .words)) (pushMark (a .mark)) (judged small) tt refl (t .put-section .ensures)
+    (left .if2 .left)
     (added .push-words .ensures)
 
 pub push-mark-spec : {M : Type 1} → statement M

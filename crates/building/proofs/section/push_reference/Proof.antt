@@ -47,7 +47,8 @@ returns-2 c =
     let worded = put-now .before .before in
     let small = worded .before in
     let a = entry small .args in
-    put (a .state) (now (a .bytes)) (now (a .words)) (pushReference (a .r)) (judged small) tt (worded .reference-words .ensures) (put-now .push-words .ensures)
+    put (a .state) (now (a .bytes)) (now (a .words)) (pushReference (a .r)) (judged small) tt (worded .reference-words .ensures)
+    (put-now .push-words .ensures)
 
 pub push-reference-spec : {M : Type 1} → statement M
 push-reference-spec =

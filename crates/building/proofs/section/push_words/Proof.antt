@@ -37,7 +37,8 @@ returns-2 c =
     let left = judged .before .before in
     let t = tried (left .before) in
     let a = entry t .args in
-    words-judged (a .state) (now (a .bytes)) (now (a .words)) (storedSection (a .kind) (a .first) (a .second)) (t .put-section .ensures) (left .if1 .left)
+    words-judged (a .state) (now (a .bytes)) (now (a .words)) (storedSection (a .kind) (a .first) (a .second)) (t .put-section .ensures)
+    (left .if1 .left)
     (judged .add-section .ensures)
 
 pub push-words-spec : {M : Type 1} → statement M
