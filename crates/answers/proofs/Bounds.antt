@@ -27,11 +27,11 @@ use Rattle.settling.specs.Settle.{settlement}
 use Rattle.settling.proofs.Sections.{decode-count}
 use Rattle.emission.proofs.Places.{still-sum, sizes-five}
 use Rattle.assembler.specs.Assemble.{assembly}
-use Rattle.assembler.specs.Answers as answer
-use Rattle.assembler.specs.Answers.{AssemblyAnswer, assemblyReply, AnswerSays}
+use Rattle.assembler.specs.AssemblyAnswers as answer
+use Rattle.assembler.specs.AssemblyAnswers.{AssemblyAnswer, assemblyReply, AnswerSays}
 use Rattle.assembler.proofs.Decoded.{stored-small}
 use Rattle.assembler.proofs.Laid.{laid, sound-settles}
-use Rattle.assembler.proofs.Answers.{assembly-answers, assembly-law}
+use Rattle.assembler.proofs.AssemblyAnswers.{assembly-answers, assembly-law}
 use Rattle.listing.specs.Listing.{listing}
 use Rattle.listing.specs.Answer.{replyFor, listingReply}
 use Rattle.listing.proofs.Every.{listing-short}

@@ -1,7 +1,7 @@
 -- Laws for `assemble`: one for each way that it goes, each giving the whole contract. Assumes nothing.
 use Prim.Native.Nat.{ℕ, _+_, _≤_}
 use native.Mathlib.Omega.{arith}
-use mathlib.Core.Path.{_≡_, refl, sym, ap, ap₂, _∙_, subst}
+use mathlib.Core.Path.{_≡_, sym, ap, ap₂, _∙_, subst}
 use mathlib.Core.Bool.{true, false}
 use mathlib.Core.List.{List}
 use lib.ListN.{length, replicate}
@@ -13,7 +13,9 @@ use Rattle.records.specs.Sections.{decode}
 use Rattle.slices.specs.Over.{over}
 use Rattle.layout.specs.Passes.{entry}
 use Rattle.layout.specs.Answer.{Laid}
-use Rattle.settling.specs.Settle.{settling}
+use Rattle.settling.specs.Settle.{settling, settledReply}
+use Rattle.settling.specs.declared.Settled.{Settled}
+use Rattle.settling.specs.declared.Settled.the-variants.{LaidOut, Refused}
 use Rattle.emission.specs.Emission.{codeOf}
 use Rattle.assembler.specs.Assemble.{written, Outcome, refusal, isFull, assembly}
 use Rattle.assembler.specs.Demand3.{Demand3}
@@ -49,16 +51,20 @@ module _ (w : ℕ) (st : Store) (n : ℕ) (result : List ℕ) (position : ℕ) w
     ),
   )
 
-  -- 6 to 12
-  pub kept-refused : (r : Refusal) (table′ : List ℕ) → refusalReply r ≡ settling w n st .reply → table′ ≡ settling w n st .table
-      → Kept (refusalReply r) table′ result
-  kept-refused r table′ e t =
-      subst (λ (x : List ℕ). Kept (refusalReply r) x result) (sym (t ∙ refused-table w n st _ _ _ (sym e)))
-      (kept (refusal n result (refusalReply r)) (outcome-refused w st n result position _ _ _ (sym e)))
+  -- what the settling answered, s, as the code has it
+  module _ {s : Settled} (table′ : List ℕ) (said : settledReply s ≡ settling w n st .reply) (left : table′ ≡ settling w n st .table) where
+    -- 6 to 12
+    pub kept-refused : (r : Refusal) → s ≡ Refused r → Kept (refusalReply r) table′ result
+    kept-refused r e =
+        let same : settling w n st .reply ≡ refusalReply r = sym said ∙ ap settledReply e in
+        subst (λ (x : List ℕ). Kept (refusalReply r) x result) (sym (left ∙ refused-table w n st _ _ _ same))
+        (kept (refusal n result (refusalReply r)) (outcome-refused w st n result position _ _ _ same))
 
-  -- laid out
-  pub laid-table : (size k : ℕ) (table′ : List ℕ) → written size k ≡ settling w n st .reply → table′ ≡ settling w n st .table → LaidBy w n st table′ size k
-  laid-table size k table′ e t = ap₂ (λ (r : Reply Laid) (x : List ℕ). record { reply = r; table = x }) (sym e) (sym t)
+    -- laid out
+    pub laid-table : (size k : ℕ) → s ≡ LaidOut size k → LaidBy w n st table′ size k
+    laid-table size k e =
+        let same : settling w n st .reply ≡ written size k = sym said ∙ ap settledReply e in
+        ap₂ (λ (r : Reply Laid) (x : List ℕ). record { reply = r; table = x }) same (sym left)
 
   module _ (table : List ℕ) (size k : ℕ) (e : LaidBy w n st table size k) where
     -- 13

@@ -1,45 +1,36 @@
 -- What is known where the settling of a store laid its sections out: the store is undamaged, the table has an entry for every mark, the
 -- last pass stood still, and the code can be written. Assumes nothing.
-use Prim.Native.Nat.{ℕ, _≤_, _<_}
+use Prim.Native.Nat.{ℕ, _<_}
 use native.Mathlib.Omega.{arith}
 use native.Mathlib.Nat.{zero-add}
-use mathlib.Core.Path.{_≡_, refl, sym, ap, _∙_}
-use mathlib.Core.Bool.{true, false, true≢false}
+use mathlib.Core.Path.{_≡_, refl, sym, ap, _∙_, subst}
 use mathlib.Core.List.{List}
-use lib.Dec.{leb}
 use lib.ListN.{length, replicate}
-use borrow.Author.Tests.{leb-false, ltb-false}
-use Rattle.units.specs.declared.MarkReference.{MarkReference}
-use Rattle.units.specs.declared.MarkReference.the-variants.{Direct, Delta}
-use Rattle.units.specs.declared.AsmReference.{AsmReference}
 use Rattle.units.specs.Reply.{refused}
-use Rattle.records.specs.Record.{readSection}
 use Rattle.records.specs.Store.{Store, sectionWords}
-use Rattle.records.specs.Damage.{unreadable, isSpan, wholeSoundness}
-use Rattle.records.specs.Sections.{Section, reference, decode}
+use Rattle.records.specs.Damage.{wholeSoundness}
+use Rattle.records.specs.Sections.{Section, decodeAt, decode}
 use Rattle.records.specs.declared.damage.Soundness.{Soundness}
 use Rattle.records.specs.declared.damage.Soundness.the-variants.{Sound, Damaged}
-use Rattle.records.specs.declared.record.AsmSection.the-variants.{MarkRef}
-use Rattle.records.specs.declared.record.SectionRead.{SectionRead}
-use Rattle.records.specs.declared.record.SectionRead.the-variants.{Read}
+use Rattle.records.specs.declared.record.StoredSection.{StoredSection}
 use Rattle.layout.specs.Passes.{entry, settled, settle}
-use Rattle.layout.specs.Conditions.{sectionAt, placesSome, someMark, namesSome, shortAt, backwardBy, backwardAt}
 use Rattle.layout.specs.Answer.{Answer, laidOut, noLayout, answer, Says}
 use Rattle.layout.proofs.Answers.{settle-law, answer-law}
-use Rattle.layout.proofs.Moves.{Still, or-false}
+use Rattle.layout.proofs.Moves.{Still}
 use Rattle.layout.proofs.Rule.{Sizes}
-use Rattle.layout.proofs.Today.{today}
+use Rattle.layout.proofs.WidthRule.{widthRule}
 use Rattle.undamaged.specs.View.{Undamaged, Facts}
-use Rattle.undamaged.proofs.Reading.{View, unread, as-ops, as-data, as-mark, as-reference, view}
 use Rattle.undamaged.proofs.Soundness.{undamaged-iff}
+use Rattle.undamaged.proofs.Sections.{section-held}
 use Rattle.settling.specs.Settle.{Settlement, settlement, settling}
-use Rattle.settling.proofs.Sections.{decode-count, span-end}
+use Rattle.settling.specs.SectionWalk.{MarksIn}
+use Rattle.settling.proofs.SectionWords.{Words, words-read, marks-in}
+use Rattle.settling.proofs.Sections.{decode-count, decode-at, span-end, Turn, short-test, backward-test}
 use Rattle.emission.specs.Emission.{codeOf}
 use Rattle.emission.proofs.Lengths.{length-code}
 use Rattle.emission.proofs.Places.{settled-still, still-sum}
 use Rattle.assembler.specs.Assemble.{written}
-use Rattle.assembler.specs.Writing.{MarksIn, WritableRead}
-use Rattle.assembler.proofs.Decoded.{decode-reference}
+use Rattle.assembler.specs.Writing.{Writable}
 use Rattle.assembler.proofs.Outcomes.{LaidBy, written-same}
 
 -- an undamaged store is answered by its sections
@@ -73,29 +64,14 @@ laid-sound w n st table size k e = go (wholeSoundness w st) (answer n (decode w 
         let c : p ≡ k = written-same (ap (λ (x : Settlement). x .reply) f) .1 in
         (h, cc)
 
--- a reference that 7 and 12 don't refuse can be read from the table
-marks-in : (n : ℕ) (table : List ℕ) (r : MarkReference) → length table ≡ n → someMark (leb n) r ≡ false → backwardBy table r ≡ false → MarksIn table r
-marks-in n table (Direct m) e h b = omega (arith, leb-false n (m .0) h)
-marks-in n table (Delta d) e h b =
-    let q = or-false (leb n (d .start .0)) (leb n (d .end .0)) h in
-    (omega (arith, leb-false n (d .start .0) (q .0)), omega (arith, leb-false n (d .end .0) (q .1)), ltb-false (entry table (d .end .0)) (entry table (d .start .0)) b)
-
--- three words that are readable, whose span is in the byte slice and whose marks are in the table
-writable-view : {k a b : ℕ} {v : SectionRead} (held table : List ℕ) → View k a b v → unreadable v ≡ false → (isSpan k ≡ true → b ≤ length held)
-    → ((r : AsmReference) → v ≡ Read (MarkRef r) → MarksIn table (r .«mark_ref»)) → WritableRead held table v
-writable-view held table unread u s m = absurd (true≢false u)
-writable-view held table (as-ops e l) u s m = (l, s (ap isSpan e))
-writable-view held table (as-data e l) u s m = (l, s (ap isSpan e))
-writable-view held table (as-mark n i) u s m = tt
-writable-view held table (as-reference n r) u s m = m r refl
-
--- the section is a reference that neither 7 nor 12 refuses
-section-marks : (n : ℕ) (table : List ℕ) (ss : List Section) (i : ℕ) (r : AsmReference) → length table ≡ n → sectionAt ss i ≡ reference r
-    → shortAt n ss i ≡ false → backwardAt table ss i ≡ false → MarksIn table (r .«mark_ref»)
-unfolding shortAt backwardAt
-section-marks n table ss i r e is h b =
-    let q : namesSome (leb n) (sectionAt ss i) ≡ false = or-false (placesSome (leb n) (sectionAt ss i)) (namesSome (leb n) (sectionAt ss i)) h .1 in
-    marks-in n table (r .«mark_ref») e (rw is at q) (rw is at b)
+-- the words of section i
+turn-at : (w : ℕ) (st : Store) (i : ℕ) → Facts w st → i < st .sections → Turn (decode w st) i (sectionWords w st i)
+unfolding decodeAt
+turn-at w st i f l =
+    record {
+      below = omega (arith, decode-count w st);
+      words = subst (Words (sectionWords w st i)) (sym (decode-at w st i l)) (words-read (st .bytes) (sectionWords w st i) (f .readable i l) (span-end w st i f l));
+    }
 
 -- what is known
 pub record LaidFacts (w n : ℕ) (st : Store) (table : List ℕ) (size k : ℕ) : Type 0 where
@@ -104,10 +80,10 @@ pub record LaidFacts (w n : ℕ) (st : Store) (table : List ℕ) (size k : ℕ) 
   pub says : Says n (decode w st) (laidOut table size k)
   pub settles : settle n (decode w st) ≡ settled table size k
   pub long : length table ≡ n
-  pub still : Still (Sizes today) (decode w st) 0 (entry table) size
+  pub still : Still (Sizes widthRule) (decode w st) 0 (entry table) size
   -- the length answered is the code's
   pub codeLong : length (codeOf (entry table) (decode w st)) ≡ size
-  pub writable : (i : ℕ) → i < st .sections → WritableRead (st .bytes) table (readSection (sectionWords w st i))
+  pub writable : (i : ℕ) → i < st .sections → Writable (st .bytes) table (sectionWords w st i)
 
 -- it is known
 pub laid : (w n : ℕ) (st : Store) (table : List ℕ) (size k : ℕ) → LaidBy w n st table size k → LaidFacts w n st table size k
@@ -128,7 +104,11 @@ laid w n st table size k e =
       still = q .1;
       codeLong = length-code (entry table) ss ∙ sym (still-sum (entry table) ss 0 size (q .1) ∙ zero-add _);
       writable = λ i l.
-          let here : i < length ss = omega (arith, decode-count w st) in
-          writable-view (st .bytes) table (view (sectionWords w st i)) (f .readable i l) (span-end w st i f l)
-          (λ r is. section-marks n table ss i r (q .0) (decode-reference w st i r l is) (s .0 .0 i here) (s .2 i here));
+          let x : StoredSection = sectionWords w st i in
+          let turn : Turn ss i x = turn-at w st i f l in
+          record {
+            here = section-held w st i f l;
+            marks = subst (λ (m : ℕ). MarksIn m x) (sym (q .0)) (marks-in n x (short-test n ss i x turn ∙ s .0 .0 i (turn .below)));
+            forward = backward-test table ss i x turn ∙ s .2 i (turn .below);
+          };
     }

@@ -1,11 +1,11 @@
+pub mod SectionBytes
 pub mod Writes
 pub mod Decoded
 pub mod Outcomes
 pub mod Laid
 pub mod Demand3
 pub mod Instructions
-pub mod Answers
+pub mod AssemblyAnswers
 pub mod Assembles
 pub mod Leaves
 pub mod Hand
-pub mod Words

@@ -15,7 +15,7 @@ use Rattle.records.specs.Sections.{decode}
 use Rattle.slices.specs.Over.{over}
 use Rattle.layout.specs.Passes.{entry}
 use Rattle.layout.specs.Answer.{Laid}
-use Rattle.layout.proofs.Moves.{or-false}
+use Rattle.slices.proofs.Tests.{or-false}
 use Rattle.settling.specs.Settle.{Settlement, settling}
 use Rattle.emission.specs.Emission.{codeOf}
 use Rattle.assembler.specs.Assemble.{written, Outcome, refusal, isFull, writing, assembly}
@@ -98,3 +98,11 @@ full-law room position size = (λ f. go (ltb room position) refl f, λ h. back (
     back : (b : Bool) → ltb room position ≡ b → room < position + size → (b || ltb (room - position) size) ≡ true
     back true e h = refl
     back false e h = lt-ltb (room - position) size (omega (arith, ltb-false room position e))
+
+-- as the code tests it: the position is past the result's end
+pub full-position : (room position size : ℕ) → room < position → true ≡ isFull room position size
+full-position room position size h = rw (lt-ltb room position h)
+
+-- or the length is above what is left, or isn't
+pub full-length : (room position size : ℕ) → position ≤ room → ltb (room - position) size ≡ isFull room position size
+full-length room position size h = rw (le-ltb room position h)

@@ -6,94 +6,121 @@ use native.Mathlib.Nat.{add-zero, sub-zero}
 use mathlib.Core.Path.{_≡_, refl, sym, _∙_, ap, subst}
 use mathlib.Core.Bool.{Bool, true, false, false≢true}
 use mathlib.Core.List.{List, [], _∷_, _++_}
-use lib.Dec.{ltb}
+use lib.Dec.{leb, ltb, eqb}
 use lib.ListN.{length, getD, set, length-append}
 use lib.Seq.{slice, slice-cons}
-use borrow.Author.Tests.{lt-ltb, le-ltb}
-use Rattle.units.specs.Numbers.{bigEndian}
-use Rattle.units.specs.declared.MarkId.{MarkId}
-use Rattle.units.specs.declared.AsmReference.{AsmReference}
+use borrow.Author.Tests.{eq-eqb, ne-eqb, lt-ltb, ltb-false}
+use Rattle.units.specs.Numbers.{bigEndian, heldBytes}
+use Rattle.units.specs.Form.{countByForm, pushZeroByForm}
+use Rattle.units.proofs.Held.{held-le}
 use Rattle.units.proofs.BigEndian.{length-bigEndian}
-use Rattle.records.specs.Record.{readSection}
+use Rattle.records.specs.Record.{directKind}
 use Rattle.records.specs.Store.{Store, sectionWords}
-use Rattle.records.specs.Sections.{decodeAt, decodeFrom, decode, sectionRead}
+use Rattle.records.specs.Sections.{decodeAt, decodeFrom, decode}
 use Rattle.records.specs.declared.record.StoredSection.{StoredSection}
-use Rattle.records.specs.declared.record.AsmSection.the-variants.{Mark}
-use Rattle.records.specs.declared.record.SectionRead.{SectionRead}
-use Rattle.records.specs.declared.record.SectionRead.the-variants.{Read}
 use Rattle.slices.specs.Over.{over}
 use Rattle.slices.proofs.Over.{length-over}
+use Rattle.slices.proofs.Tests.{cond-case, and-false}
 use Rattle.layout.specs.Passes.{entry}
-use Rattle.emission.specs.Emission.{opcode, referenceBytes, sectionBytes, inARow, codeOf}
-use Rattle.units.specs.Reference.{byteCount, isPushZero}
+use Rattle.settling.specs.SectionWalk.{backwardWords, valueWords}
+use Rattle.emission.specs.Emission.{opcode, inARow, codeOf}
 use Rattle.slices.proofs.Over.{over-nothing, over-next, over-one}
-use Rattle.assembler.specs.Assemble.{isFull}
-use Rattle.assembler.specs.Writing.{WritableRead}
+use Rattle.assembler.specs.Writing.{Fits, Wrote, wordsBytes, formBytes, WritableReference}
 
--- ---- 13
+-- ---- one part, and two in a row
 
--- the position is past the result's end
-pub full-position : (room position size : ℕ) → room < position → true ≡ isFull room position size
-full-position room position size h = rw (lt-ltb room position h)
+-- nothing written
+pub wrote-none : (old : List ℕ) (i : ℕ) → Wrote old i [] i old
+wrote-none old i = record { count = sym (add-zero i); result = sym (over-nothing old i) }
 
--- the length is above what is left, or isn't
-pub full-length : (room position size : ℕ) → position ≤ room → ltb (room - position) size ≡ isFull room position size
-full-length room position size h = rw (le-ltb room position h)
+-- one byte
+pub wrote-byte : (old : List ℕ) (i b : ℕ) → i < length old → Wrote old i (b ∷ []) (i + 1) (set old i b)
+wrote-byte old i b h = record { count = refl; result = over-one old i b h }
+
+-- what was written, put otherwise
+pub wrote-is : {old new : List ℕ} {i next : ℕ} {x y : List ℕ} → x ≡ y → Wrote old i x next new → Wrote old i y next new
+wrote-is {old} {new} {i} {next} e h = subst (λ (z : List ℕ). Wrote old i z next new) e h
+
+pub fits-is : (old : List ℕ) (i : ℕ) {x y : List ℕ} → x ≡ y → Fits old i x → Fits old i y
+fits-is old i e h = subst (Fits old i) e h
+
+-- the result keeps its length
+pub wrote-length : {old new : List ℕ} {i next : ℕ} {x : List ℕ} → Fits old i x → Wrote old i x next new → length new ≡ length old
+wrote-length {old} {new} {i} {next} {x} f h = ap length (h .result) ∙ length-over old i x (omega arith) f
+
+-- one part after another
+pub wrote-next : {old mid new : List ℕ} {i k next : ℕ} {x y : List ℕ} → Fits old i x → Wrote old i x k mid → Wrote mid k y next new → Wrote old i (x ++ y) next new
+wrote-next {old} {mid} {new} {i} {k} {next} {x} {y} f h g = record {
+  count = omega (arith, length-append x y, h .count, g .count);
+  result = g .result
+      ∙ ap (λ (n : ℕ). over mid n y) (h .count)
+      ∙ ap (λ (o : List ℕ). over o (i + length x) y) (h .result)
+      ∙ over-next old i x y f;
+}
 
 -- ---- the parts of a reference
 
 -- the opcode of a pushed reference is one byte
-pub opcode-pushed : (p : Bool) (n i : ℕ) (old : List ℕ) → p ≡ true → i + length (opcode p n) ≤ length old
-    → (i < length old) × (i + 1 ≡ i + length (opcode p n)) × (set old i (95 + n) ≡ over old i (opcode p n))
-opcode-pushed true n i old e h = (omega arith, refl, over-one old i (95 + n) (omega arith))
+pub opcode-pushed : (p : Bool) (n i : ℕ) (old : List ℕ) → p ≡ true → Fits old i (opcode p n) → (i < length old) × Wrote old i (opcode p n) (i + 1) (set old i (95 + n))
+opcode-pushed true n i old e h = (omega arith, wrote-byte old i (95 + n) (omega arith))
 opcode-pushed false n i old e h = absurd (false≢true e)
 
 -- a raw reference has none
-pub opcode-raw : (p : Bool) (n i : ℕ) (old : List ℕ) → p ≡ false → (i ≡ i + length (opcode p n)) × (old ≡ over old i (opcode p n))
-opcode-raw p n i old e = rw e (sym (add-zero i), sym (over-nothing old i))
+pub opcode-raw : (p : Bool) (n i : ℕ) (old : List ℕ) → p ≡ false → Wrote old i (opcode p n) i old
+opcode-raw true n i old e = absurd (false≢true (sym e))
+opcode-raw false n i old e = wrote-none old i
 
--- ---- a reference; x is the value and n the byte count, as the code has them
+-- ---- a reference, by its form and value
 
-module _ (r : AsmReference) (v x : ℕ) (same : x ≡ v) where
-  -- pushed, unsized and 0: the byte 5f
-  bytes-zero : isPushZero (r .«set_size») (r .pushed) x ≡ true → referenceBytes r v ≡ 95 ∷ []
-  unfolding referenceBytes
-  bytes-zero e = rw (← same, e)
-
-  -- which is written alone
-  pub reference-zero : (i : ℕ) (old : List ℕ) → isPushZero (r .«set_size») (r .pushed) x ≡ true → i + length (referenceBytes r v) ≤ length old
-      → (i < length old) × (i + 1 ≡ i + length (referenceBytes r v)) × (set old i 95 ≡ over old i (referenceBytes r v))
+module _ (f v : ℕ) where
+  -- pushed, unsized and 0: the byte 5f alone
+  pub reference-zero : (i : ℕ) (old : List ℕ) → pushZeroByForm f v ≡ true → Fits old i (formBytes f v)
+      → (i < length old) × Wrote old i (formBytes f v) (i + 1) (set old i 95)
+  unfolding formBytes
   reference-zero i old e h =
-      let one : referenceBytes r v ≡ 95 ∷ [] = bytes-zero e in
-      let k : i < length old = omega (arith, ap length one) in
-      rw one (k, refl, over-one old i 95 k)
+      let k : i < length old = omega (arith, rw e at h) in
+      (k, rw e (wrote-byte old i 95 k))
 
-  -- else the opcode and the value
-  module _ (n : ℕ) (e : isPushZero (r .«set_size») (r .pushed) x ≡ false) (count : n ≡ byteCount (r .«set_size») x) where
+  -- else the opcode and the value; n is the byte count as the code has it
+  module _ (n : ℕ) (e : pushZeroByForm f v ≡ false) (count : n ≡ countByForm f v) where
     -- in a row
-    pub reference-parts : referenceBytes r v ≡ opcode (r .pushed) n ++ bigEndian n x
-    unfolding referenceBytes
-    reference-parts = rw (← same, e, count)
+    reference-parts : opcode (leb 8 f) n ++ bigEndian n v ≡ formBytes f v
+    unfolding formBytes
+    reference-parts = rw (e, count)
 
     -- so many bytes
-    pub reference-long : (i : ℕ) → i + length (referenceBytes r v) ≡ i + length (opcode (r .pushed) n) + n
-    reference-long i = omega (arith, ap length reference-parts, length-append (opcode (r .pushed) n) (bigEndian n x), length-bigEndian n x)
+    pub reference-long : length (formBytes f v) ≡ length (opcode (leb 8 f) n) + n
+    reference-long =
+        sym (ap length reference-parts) ∙ length-append (opcode (leb 8 f) n) (bigEndian n v) ∙ ap (λ (k : ℕ). length (opcode (leb 8 f) n) + k) (length-bigEndian n v)
 
     -- written one after the other
-    pub reference-written : (i start : ℕ) (old between new : List ℕ) → i + length (referenceBytes r v) ≤ length old
-        → start ≡ i + length (opcode (r .pushed) n)
-        → between ≡ over old i (opcode (r .pushed) n)
-        → new ≡ over between start (bigEndian n x)
-        → (start + n ≡ i + length (referenceBytes r v)) × (new ≡ over old i (referenceBytes r v))
-    reference-written i start old between new h s b w =
-        let l = reference-long i in (
-          omega arith,
-          w
-              ∙ ap (λ (k : ℕ). over between k (bigEndian n x)) s
-              ∙ ap (λ (o : List ℕ). over o (i + length (opcode (r .pushed) n)) (bigEndian n x)) b
-              ∙ over-next old i (opcode (r .pushed) n) (bigEndian n x) (omega arith)
-              ∙ ap (over old i) (sym reference-parts),
-        )
+    pub reference-written : {i start : ℕ} {old between new : List ℕ} → Fits old i (formBytes f v) → Wrote old i (opcode (leb 8 f) n) start between
+        → new ≡ over between start (bigEndian n v) → Wrote old i (formBytes f v) (start + n) new
+    reference-written {i} {start} {old} {between} {new} h w z =
+        wrote-is reference-parts
+        (wrote-next (omega (arith, reference-long)) w (record { count = ap (λ (k : ℕ). start + k) (sym (length-bigEndian n v)); result = z }))
+
+  -- at most four bytes
+  pub count-four : f % 8 ≤ 4 → countByForm f v ≤ 4
+  unfolding countByForm
+  count-four h = cond-case (λ (n : ℕ). n ≤ 4) (eqb (f % 8) 0) (heldBytes v) (f % 8) (λ _. held-le v) (λ _. h)
+
+-- ---- a reference's value
+
+module _ (table : List ℕ) (x : StoredSection) (ok : WritableReference table x) where
+  -- a direct one
+  pub value-one : x .kind ≡ directKind → (x .first < length table) × (entry table (x .first) ≡ valueWords table x)
+  unfolding valueWords
+  value-one k = (ok .marks .first (ok .kind), rw (eq-eqb (x .kind) directKind k))
+
+  -- a delta
+  pub value-two : (x .kind ≡ directKind → ⊥)
+      → (x .first < length table) × (x .second < length table) × (entry table (x .first) ≤ entry table (x .second)) × (entry table (x .second) - entry table (x .first) ≡ valueWords table x)
+  unfolding valueWords backwardWords
+  value-two n =
+      let above : directKind < x .kind = omega (arith, ok .kind) in
+      let below = and-false (ltb directKind (x .kind)) (ltb (entry table (x .second)) (entry table (x .first))) (ok .forward) (lt-ltb directKind (x .kind) above) in
+      (ok .marks .first (ok .kind), ok .marks .second above, ltb-false (entry table (x .second)) (entry table (x .first)) below, rw (ne-eqb (x .kind) directKind n))
 
 -- ---- a value
 
@@ -106,15 +133,11 @@ digit-one old i v h = over-one old i (v % 256) h
 pub digits-none : (old : List ℕ) (i n v : ℕ) → n ≤ 4 → (n ≡ 1 → ⊥) → (n ≡ 2 → ⊥) → (n ≡ 3 → ⊥) → (n ≡ 4 → ⊥) → old ≡ over old i (bigEndian n v)
 unfolding bigEndian
 digits-none old i zero v l a b c d = sym (over-nothing old i)
-digits-none old i (suc zero) v l a b c d = absurd (a refl)
-digits-none old i (suc (suc zero)) v l a b c d = absurd (b refl)
-digits-none old i (suc (suc (suc zero))) v l a b c d = absurd (c refl)
-digits-none old i (suc (suc (suc (suc zero)))) v l a b c d = absurd (d refl)
-digits-none old i (suc (suc (suc (suc (suc n))))) v l a b c d = absurd (omega arith)
+digits-none old i (suc n) v l a b c d = absurd (omega arith)
 
--- ---- a section
+-- ---- the bytes of a span
 
--- one byte of a span written, and the others to be written after it
+-- one byte written, and the others to be written after it
 pub span-step : (bytes old : List ℕ) (i end at : ℕ) → i < end → end ≤ length bytes → at < length old
     → over (set old at (getD bytes i 0)) (at + 1) (slice (i + 1) end bytes) ≡ over old at (slice i end bytes)
 span-step bytes old i end at l h r =
@@ -124,26 +147,6 @@ span-step bytes old i end at l h r =
     ∙ over-next old at (b ∷ []) (slice (i + 1) end bytes) (omega arith)
     ∙ ap (over old at) (sym cons)
 
-module _ (bytes table old : List ℕ) (i : ℕ) where
-  -- what writing a section asks
-  abbrev pub Asks : SectionRead → Type 0
-  Asks v = WritableRead bytes table v × (i + length (sectionBytes (entry table) (sectionRead bytes v)) ≤ length old)
-
-  -- and what it does
-  abbrev pub Does : SectionRead → ℕ → List ℕ → Type 0
-  Does v next new = (next ≡ i + length (sectionBytes (entry table) (sectionRead bytes v))) × (new ≡ over old i (sectionBytes (entry table) (sectionRead bytes v)))
-
-  -- the same of what the words are known to be
-  pub asks-case : (v w : SectionRead) → v ≡ w → Asks v → Asks w
-  asks-case v w e h = subst Asks e h
-
-  pub does-case : (v w : SectionRead) (next : ℕ) (new : List ℕ) → v ≡ w → Does w next new → Does v next new
-  does-case v w next new e h = subst (λ (z : SectionRead). Does z next new) (sym e) h
-
-  -- a mark has no bytes
-  pub does-mark : (v : SectionRead) (m : MarkId) → v ≡ Read (Mark m) → Does v i old
-  does-mark v m e = does-case v (Read (Mark m)) i old e (sym (add-zero i), sym (over-nothing old i))
-
 -- ---- the sections
 
 module _ (w : ℕ) (st : Store) (table : List ℕ) where
@@ -152,8 +155,7 @@ module _ (w : ℕ) (st : Store) (table : List ℕ) where
   codeFrom i = codeOf (entry table) (decodeFrom w st (st .sections - i) i)
 
   -- section i, of the words x, and those after it
-  code-step : (i : ℕ) (x : StoredSection) → i < st .sections → x ≡ sectionWords w st i
-      → codeFrom i ≡ sectionBytes (entry table) (sectionRead (st .bytes) (readSection x)) ++ codeFrom (i + 1)
+  code-step : (i : ℕ) (x : StoredSection) → i < st .sections → x ≡ sectionWords w st i → codeFrom i ≡ wordsBytes table (st .bytes) x ++ codeFrom (i + 1)
   unfolding decodeFrom decodeAt inARow
   code-step i x h e =
       let k : st .sections - i ≡ suc (st .sections - (i + 1)) = omega arith in
@@ -161,44 +163,41 @@ module _ (w : ℕ) (st : Store) (table : List ℕ) where
 
   module _ (old : List ℕ) (position : ℕ) where
     -- with the code from section i on still to be written at `at`, the result is as it is to be
-    abbrev pub Writing : List ℕ → ℕ → ℕ → Type 0
-    Writing new i at =
-        (i ≤ st .sections) × (length new ≡ length old) × (at + length (codeFrom i) ≤ length new)
-        × (over new at (codeFrom i) ≡ over old position (codeOf (entry table) (decode w st)))
+    pub record Writing (new : List ℕ) (i at : ℕ) : Type 0 where
+      pub within : i ≤ st .sections
+      pub same : length new ≡ length old
+      pub fits : Fits new at (codeFrom i)
+      pub left : over new at (codeFrom i) ≡ over old position (codeOf (entry table) (decode w st))
 
     -- at the start all is
-    pub writing-start : position + length (codeOf (entry table) (decode w st)) ≤ length old → Writing old 0 position
+    pub writing-start : Fits old position (codeOf (entry table) (decode w st)) → Writing old 0 position
     unfolding decode
-    writing-start h = (omega arith, refl, rw sub-zero h, rw sub-zero refl)
+    writing-start h = record { within = omega arith; same = refl; fits = rw sub-zero h; left = rw sub-zero refl }
 
-    -- section i fits
-    pub writing-fits : (new : List ℕ) (i at : ℕ) (x : StoredSection) → Writing new i at → i < st .sections → x ≡ sectionWords w st i
-        → at + length (sectionBytes (entry table) (sectionRead (st .bytes) (readSection x))) ≤ length new
-    writing-fits new i at x q h e =
-        let part : List ℕ = sectionBytes (entry table) (sectionRead (st .bytes) (readSection x)) in
-        omega (arith, q .2, ap length (code-step i x h e), length-append part (codeFrom (i + 1)))
+    module _ {new : List ℕ} {i at : ℕ} (q : Writing new i at) where
+      -- section i fits
+      pub writing-fits : (x : StoredSection) → i < st .sections → x ≡ sectionWords w st i → Fits new at (wordsBytes table (st .bytes) x)
+      writing-fits x h e =
+          omega (arith, q .fits, ap length (code-step i x h e), length-append (wordsBytes table (st .bytes) x) (codeFrom (i + 1)))
 
-    -- section i written
-    pub writing-next : (new : List ℕ) (i at : ℕ) (x : StoredSection) (next : ℕ) (new′ : List ℕ) → Writing new i at → i < st .sections
-        → x ≡ sectionWords w st i → Does (st .bytes) table new at (readSection x) next new′ → Writing new′ (i + 1) next
-    writing-next new i at x next new′ q h e d =
-        let part : List ℕ = sectionBytes (entry table) (sectionRead (st .bytes) (readSection x)) in
-        let fits : at + length part ≤ length new = writing-fits new i at x q h e in
-        let long : length new′ ≡ length new = ap length (d .1) ∙ length-over new at part (omega arith) fits in
-        let all : at + length (codeFrom i) ≡ at + length part + length (codeFrom (i + 1)) = omega (arith, ap length (code-step i x h e), length-append part (codeFrom (i + 1))) in (
-          omega arith,
-          long ∙ q .1,
-          omega (arith, q .2, d .0),
-          ap (λ (k : ℕ). over new′ k (codeFrom (i + 1))) (d .0)
-              ∙ ap (λ (o : List ℕ). over o (at + length part) (codeFrom (i + 1))) (d .1)
-              ∙ over-next new at part (codeFrom (i + 1)) fits
-              ∙ ap (over new at) (sym (code-step i x h e))
-              ∙ q .3,
-        )
+      -- section i written
+      pub writing-next : (x : StoredSection) {next : ℕ} {new′ : List ℕ} → i < st .sections → x ≡ sectionWords w st i
+          → Wrote new at (wordsBytes table (st .bytes) x) next new′ → Writing new′ (i + 1) next
+      writing-next x {next} {new′} h e d =
+          let part : List ℕ = wordsBytes table (st .bytes) x in
+          let fits : Fits new at part = writing-fits x h e in
+          let long : length new′ ≡ length new = wrote-length fits d in
+          let step : codeFrom i ≡ part ++ codeFrom (i + 1) = code-step i x h e in
+          record {
+            within = omega arith;
+            same = long ∙ q .same;
+            fits = omega (arith, q .fits, d .count, ap length step, length-append part (codeFrom (i + 1)));
+            left = wrote-next fits d (record { count = refl; result = refl }) .result ∙ ap (over new at) (sym step) ∙ q .left;
+          }
 
-    -- all written
-    pub writing-done : (new : List ℕ) (i at : ℕ) → Writing new i at → st .sections ≤ i → new ≡ over old position (codeOf (entry table) (decode w st))
-    unfolding decodeFrom inARow
-    writing-done new i at q h =
-        let z : st .sections - i ≡ 0 = omega arith in
-        sym (over-nothing new at) ∙ rw z at (q .3)
+      -- all written
+      pub writing-done : st .sections ≤ i → new ≡ over old position (codeOf (entry table) (decode w st))
+      unfolding decodeFrom inARow
+      writing-done h =
+          let z : st .sections - i ≡ 0 = omega arith in
+          sym (over-nothing new at) ∙ rw z at (q .left)

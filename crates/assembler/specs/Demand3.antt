@@ -1,5 +1,5 @@
--- Demand 3, said of a store and slices lent, and of the answer, table and result left. Layouts and 'gives enough' are in layout/specs/Layout,
--- which reads nothing of the passes. Its proof is in proofs/Demand3. Assumes nothing.
+-- Demand 3, said of a store and slices lent, and of the answer, table and result left. Layouts and 'gives enough' are in
+-- layout/specs/Layout, which reads nothing of the passes. Its proof is in proofs/Demand3. Assumes nothing.
 use Prim.Native.Nat.{ℕ, _+_, _*_, _-_, _≤_}
 use mathlib.Core.Path.{_≡_}
 use mathlib.Core.Bool.{true}
@@ -54,7 +54,8 @@ pub record Written (ss : List Section) (n : ℕ) (result : List ℕ) (position s
   -- 'the length answered is its length in all'
   pub long : size ≡ inAll (writtenLayout table′ ss)
   -- 'Every other layout that gives enough, padded ones too, puts each mark at least as late and is at least as long in all.'
-  pub least : (l : Layout) → GivesEnough ss l → ((m : ℕ) → placed ss m ≡ true → entry table′ m ≤ l .offset m) × (inAll (writtenLayout table′ ss) ≤ inAll l)
+  pub least : (l : Layout) → GivesEnough ss l
+      → ((m : ℕ) → placed ss m ≡ true → entry table′ m ≤ l .offset m) × (inAll (writtenLayout table′ ss) ≤ inAll l)
   -- 'The pass count returned .. is at most 4 × A + 3 × B + 1'
   pub bound : passes ≤ passBound ss + 1
 
@@ -67,7 +68,8 @@ abbrev pub IsTooNarrow : Reply Laid → Type 0
 IsTooNarrow reply = (section : ℕ) × (passes : ℕ) × (reply ≡ refused tooNarrow section passes)
 
 -- demand 3, over the sections of the store
-pub record Shortest (ss : List Section) (n : ℕ) (result : List ℕ) (position : ℕ) (reply : Reply Laid) (table′ result′ : List ℕ) : Type 0 where
+pub record Shortest (ss : List Section) (n : ℕ) (result : List ℕ) (position : ℕ) (reply : Reply Laid) (table′ result′ : List ℕ)
+    : Type 0 where
   -- 'code is written exactly when some layout gives every reference enough bytes'
   pub exactly : IsWritten reply ↔ SomeLayout ss
   -- 'otherwise the answer is number 10'

@@ -1,6 +1,6 @@
 pub mod Assemble
-pub mod Demand3
-pub mod Writing
-pub mod Instructions
-pub mod Answers
+pub mod AssemblyAnswers
 pub mod Leaves
+pub mod Demand3
+pub mod Instructions
+pub mod Writing

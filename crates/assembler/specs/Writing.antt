@@ -1,55 +1,48 @@
--- What the private functions of emission ask of what they are lent: they are called after the settling, which refused all else.
--- Assumes nothing.
-use Prim.Native.Nat.{ℕ, _≤_, _<_}
-use mathlib.Core.Bool.{false}
-use mathlib.Core.List.{List}
+-- Private to the writer, src/write.rt: what its functions ask and promise. No public contract cites it. They are called after the
+-- settling, which refused all else. Assumes nothing.
+use Prim.Native.Nat.{ℕ, _+_, _%_, _≤_}
+use mathlib.Core.Path.{_≡_}
+use mathlib.Core.Bool.{false, cond}
+use mathlib.Core.List.{List, [], _∷_, _++_}
+use lib.Dec.{leb}
 use lib.ListN.{length}
-use Rattle.units.specs.declared.BytesSpan.{BytesSpan}
-use Rattle.units.specs.declared.MarkReference.{MarkReference}
-use Rattle.units.specs.declared.MarkReference.the-variants.{Direct, Delta}
-use Rattle.units.specs.declared.SetSize.the-variants.{Unsized}
-use Rattle.units.specs.declared.AsmReference.{AsmReference}
+use Rattle.units.specs.Numbers.{bigEndian}
+use Rattle.units.specs.Form.{countByForm, pushZeroByForm}
+use Rattle.records.specs.Record.{directKind, readSection, formOf}
+use Rattle.records.specs.Sections.{sectionRead}
 use Rattle.records.specs.declared.record.StoredSection.{StoredSection}
-use Rattle.records.specs.declared.record.AsmSection.{AsmSection}
-use Rattle.records.specs.declared.record.AsmSection.the-variants.{Mark, Ops, Data, MarkRef}
-use Rattle.records.specs.declared.record.SectionRead.{SectionRead}
-use Rattle.records.specs.declared.record.SectionRead.the-variants.{Read, Damaged}
+use Rattle.undamaged.specs.Section.{ReadIn}
+use Rattle.slices.specs.Over.{over}
 use Rattle.layout.specs.Passes.{entry}
-use Rattle.settling.specs.Words.{pieceOfWords, Readable}
-use Rattle.settling.specs.declared.piece.Piece.{Piece}
-use Rattle.settling.specs.declared.piece.Piece.the-variants as piece
+use Rattle.settling.specs.SectionWalk.{MarksIn, backwardWords}
+use Rattle.emission.specs.Emission.{opcode, sectionBytes}
 
--- a reference's marks are in the table, and a delta isn't backward
-abbrev pub MarksIn : List ℕ → MarkReference → Type 0
-MarksIn table (Direct m) = m .0 < length table
-MarksIn table (Delta s) = (s .start .0 < length table) × (s .end .0 < length table) × (entry table (s .start .0) ≤ entry table (s .end .0))
+-- there is room in the result for `added` from `at` on
+abbrev pub Fits : List ℕ → ℕ → List ℕ → Type 0
+Fits result at added = at + length added ≤ length result
 
--- the bytes of a span are in the byte slice
-abbrev pub SpanIn : List ℕ → BytesSpan → Type 0
-SpanIn bytes s = (s .start .0 ≤ s .end .0) × (s .end .0 ≤ length bytes)
+-- `added` was written over the result from `at` on, and `next` is the place after it
+pub record Wrote (before : List ℕ) (at : ℕ) (added : List ℕ) (next : ℕ) (after : List ℕ) : Type 0 where
+  pub count : next ≡ at + length added
+  pub result : after ≡ over before at added
 
--- a section that can be written
-abbrev pub Writable : List ℕ → List ℕ → AsmSection → Type 0
-Writable bytes table (Mark m) = Unit
-Writable bytes table (Ops s) = SpanIn bytes s
-Writable bytes table (Data s) = SpanIn bytes s
-Writable bytes table (MarkRef r) = MarksIn table (r .«mark_ref»)
+-- the bytes of the section that three words are
+abbrev pub wordsBytes : List ℕ → List ℕ → StoredSection → List ℕ
+wordsBytes table bytes x = sectionBytes (entry table) (sectionRead bytes (readSection x))
 
--- three words that are read as one
-abbrev pub WritableRead : List ℕ → List ℕ → SectionRead → Type 0
-WritableRead bytes table (Read s) = Writable bytes table s
-WritableRead bytes table Damaged = ⊥
+-- the bytes of a value, by a reference's form
+unfoldable pub formBytes : ℕ → ℕ → List ℕ
+formBytes f v = cond (pushZeroByForm f v) (0x5f ∷ []) (opcode (leb 8 f) (countByForm f v) ++ bigEndian (countByForm f v) v)
 
--- the reference that a piece is (where it is none, some reference)
-abbrev pub referenceOf : Piece → AsmReference
-referenceOf (piece.Mark m) = record { «mark_ref» = Direct m; «set_size» = Unsized; pushed = false }
-referenceOf (piece.Block k) = record { «mark_ref» = Direct (record { 0 = 0 }); «set_size» = Unsized; pushed = false }
-referenceOf (piece.Reference r) = r
+-- three words of an undamaged store whose marks are in the table, and that aren't a backward delta
+pub record Writable (bytes table : List ℕ) (x : StoredSection) : Type 0 where
+  pub here : ReadIn (length bytes) (readSection x)
+  pub marks : MarksIn (length table) x
+  pub forward : backwardWords table x ≡ false
 
--- the reference that three words are read as
-abbrev pub referenceIn : StoredSection → AsmReference
-referenceIn x = referenceOf (pieceOfWords x)
-
--- they are read as one
-abbrev pub IsReference : StoredSection → Type 0
-IsReference x = Readable x × (3 ≤ x .kind)
+-- the words of such a reference, its set size at most 4
+pub record WritableReference (table : List ℕ) (x : StoredSection) : Type 0 where
+  pub kind : directKind ≤ x .kind
+  pub marks : MarksIn (length table) x
+  pub forward : backwardWords table x ≡ false
+  pub size : formOf x % 8 ≤ 4

@@ -30,11 +30,25 @@ pub fn assemble(
     result: &mut [u8],
     position: usize,
 ) -> Assembled
-    ensures reply { λ r. ⌜ assembledReply r ≡ assembly wordsPerSection (storeOf store (now (bytes .entry)) (now (words .entry))) (length (now (table .entry))) (now (result .entry)) position .reply ⌝ }
-    ensures table { λ _. ⌜ now (table .exit) ≡ assembly wordsPerSection (storeOf store (now (bytes .entry)) (now (words .entry))) (length (now (table .entry))) (now (result .entry)) position .table ⌝ }
-    ensures result { λ _. ⌜ now (result .exit) ≡ assembly wordsPerSection (storeOf store (now (bytes .entry)) (now (words .entry))) (length (now (table .entry))) (now (result .entry)) position .result ⌝ }
-    ensures shortest { λ r. ⌜ Demand3 wordsPerSection (storeOf store (now (bytes .entry)) (now (words .entry))) (length (now (table .entry))) (now (result .entry)) position (assembledReply r) (now (table .exit)) (now (result .exit)) ⌝ }
-    ensures pushes { λ r. ⌜ CodePushes wordsPerSection (storeOf store (now (bytes .entry)) (now (words .entry))) position (assembledReply r) (now (table .exit)) (now (result .exit)) ⌝ }
+    ensures reply { λ r.
+        ⌜ assembledReply r
+        ≡ assembly wordsPerSection (storeOf store (now (bytes .entry)) (now (words .entry)))
+        (length (now (table .entry))) (now (result .entry)) position .reply ⌝ }
+    ensures table { λ _.
+        ⌜ now (table .exit)
+        ≡ assembly wordsPerSection (storeOf store (now (bytes .entry)) (now (words .entry)))
+        (length (now (table .entry))) (now (result .entry)) position .table ⌝ }
+    ensures result { λ _.
+        ⌜ now (result .exit)
+        ≡ assembly wordsPerSection (storeOf store (now (bytes .entry)) (now (words .entry)))
+        (length (now (table .entry))) (now (result .entry)) position .result ⌝ }
+    ensures shortest { λ r.
+        ⌜ Demand3 wordsPerSection (storeOf store (now (bytes .entry)) (now (words .entry)))
+        (length (now (table .entry))) (now (result .entry)) position
+        (assembledReply r) (now (table .exit)) (now (result .exit)) ⌝ }
+    ensures pushes { λ r.
+        ⌜ CodePushes wordsPerSection (storeOf store (now (bytes .entry)) (now (words .entry))) position
+        (assembledReply r) (now (table .exit)) (now (result .exit)) ⌝ }
 {
     let settled = settle(store, bytes, words, table);
     match settled {

@@ -1,25 +1,26 @@
 // Document 01, module 4: the code of the sections, written into the lent result. Called after the settling, so every section is
-// readable, every mark is in the table, no delta is backward, and the code fits.
+// readable, every mark is in the table, no delta is backward, and the code fits: a public writer would have to walk the sections once
+// more to find that out.
 use records::Assembler;
 use records::StoredSection;
+use records::form_of;
+use records::kind;
 use units::AsmBytesIdx;
-use units::AsmReference;
 use units::BytesSpan;
-use units::bytes_to_hold;
+use units::form;
 ghost use mathlib.Core.Path.{_≡_};
 ghost use Prim.Native.Nat.{ℕ, _+_, _*_, _≤_, _<_};
 ghost use lib.ListN.{length};
-ghost use lib.Seq.{slice};
 ghost use Rattle.units.specs.Numbers.{bigEndian};
-ghost use Rattle.records.specs.Record.{readSection};
+ghost use Rattle.records.specs.Record.{formOf};
 ghost use Rattle.records.specs.Store.{storeOf, wordsPerSection, wordsAt};
-ghost use Rattle.records.specs.Sections.{sectionRead, decode};
+ghost use Rattle.records.specs.Sections.{decode};
+ghost use Rattle.undamaged.specs.Section.{spanBytes, SpanIn};
 ghost use Rattle.slices.specs.Over.{over};
-ghost use Rattle.layout.specs.Passes.{entry, valueBy};
-ghost use Rattle.emission.specs.Emission.{opcode, referenceBytes, sectionBytes, codeOf};
-ghost use Rattle.units.specs.Reference.{byteCount, isPushZero};
-ghost use Rattle.units.specs.Form.{formNumber};
-ghost use Rattle.assembler.specs.Writing.{MarksIn, SpanIn, WritableRead, referenceIn, IsReference};
+ghost use Rattle.layout.specs.Passes.{entry};
+ghost use Rattle.emission.specs.Emission.{opcode, codeOf};
+ghost use Rattle.settling.specs.SectionWalk.{valueWords};
+ghost use Rattle.assembler.specs.Writing.{Fits, Wrote, wordsBytes, formBytes, Writable, WritableReference};
 
 // Writes the code of every section, from a position on.
 pub(crate) fn write_code(
@@ -31,9 +32,13 @@ pub(crate) fn write_code(
     position: usize,
 )
     requires { ⌜ wordsPerSection * (store .sections) ≤ length (now words) ⌝ }
-    requires { ⌜ ((i : ℕ) → i < store .sections → WritableRead (now bytes) (now table) (readSection (wordsAt wordsPerSection (now words) i))) ⌝ }
-    requires { ⌜ position + length (codeOf (entry (now table)) (decode wordsPerSection (storeOf store (now bytes) (now words)))) ≤ length (now result) ⌝ }
-    ensures { λ _. ⌜ now (result .exit) ≡ over (now (result .entry)) position (codeOf (entry (now (table .entry))) (decode wordsPerSection (storeOf store (now (bytes .entry)) (now (words .entry))))) ⌝ }
+    requires { ⌜ ((i : ℕ) → i < store .sections → Writable (now bytes) (now table) (wordsAt wordsPerSection (now words) i)) ⌝ }
+    requires { ⌜ Fits (now result) position
+        (codeOf (entry (now table)) (decode wordsPerSection (storeOf store (now bytes) (now words)))) ⌝ }
+    ensures { λ _.
+        ⌜ now (result .exit)
+        ≡ over (now (result .entry)) position
+        (codeOf (entry (now (table .entry))) (decode wordsPerSection (storeOf store (now (bytes .entry)) (now (words .entry))))) ⌝ }
 {
     let mut i: u32 = 0;
     let mut at = position;
@@ -43,7 +48,7 @@ pub(crate) fn write_code(
     }
 }
 
-// The three words of section i.
+// The three words of section i. A copy of the reader in `records` and not a call: a public one would test the index at each section.
 fn section_words(words: &[u32], i: usize) -> StoredSection
     requires { ⌜ wordsPerSection * (i + 1) ≤ length (now words) ⌝ }
     ensures { λ r. ⌜ r ≡ wordsAt wordsPerSection (now (words .entry)) i ⌝ }
@@ -64,16 +69,16 @@ fn write_section(
     result: &mut [u8],
     at: usize,
 ) -> usize
-    requires { ⌜ WritableRead (now bytes) (now table) (readSection section) ⌝ }
-    requires { ⌜ at + length (sectionBytes (entry (now table)) (sectionRead (now bytes) (readSection section))) ≤ length (now result) ⌝ }
-    ensures next { λ r. ⌜ r ≡ at + length (sectionBytes (entry (now (table .entry))) (sectionRead (now (bytes .entry)) (readSection section))) ⌝ }
-    ensures result { λ _. ⌜ now (result .exit) ≡ over (now (result .entry)) at (sectionBytes (entry (now (table .entry))) (sectionRead (now (bytes .entry)) (readSection section))) ⌝ }
+    requires { ⌜ Writable (now bytes) (now table) section ⌝ }
+    requires { ⌜ Fits (now result) at (wordsBytes (now table) (now bytes) section) ⌝ }
+    ensures { λ r.
+        ⌜ Wrote (now (result .entry)) at
+        (wordsBytes (now (table .entry)) (now (bytes .entry)) section) r (now (result .exit)) ⌝ }
 {
-    let kind = section.kind;
-    if kind == 0 {
+    if section.kind == kind::MARK {
         return at;
     }
-    if kind < 3 {
+    if section.kind < kind::DIRECT {
         let span = BytesSpan {
             start: AsmBytesIdx(section.first),
             end: AsmBytesIdx(section.second),
@@ -85,10 +90,9 @@ fn write_section(
 
 // Copies the bytes of a span; the position after them.
 fn write_span(span: BytesSpan, bytes: &[u8], result: &mut [u8], at: usize) -> usize
-    requires { ⌜ SpanIn (now bytes) span ⌝ }
-    requires { ⌜ at + length (slice (span .start .0) (span .end .0) (now bytes)) ≤ length (now result) ⌝ }
-    ensures next { λ r. ⌜ r ≡ at + length (slice (span .start .0) (span .end .0) (now (bytes .entry))) ⌝ }
-    ensures result { λ _. ⌜ now (result .exit) ≡ over (now (result .entry)) at (slice (span .start .0) (span .end .0) (now (bytes .entry))) ⌝ }
+    requires { ⌜ SpanIn (length (now bytes)) span ⌝ }
+    requires { ⌜ Fits (now result) at (spanBytes (now bytes) span) ⌝ }
+    ensures { λ r. ⌜ Wrote (now (result .entry)) at (spanBytes (now (bytes .entry)) span) r (now (result .exit)) ⌝ }
 {
     let end = span.end.0 as usize;
     let mut i = span.start.0 as usize;
@@ -103,77 +107,41 @@ fn write_span(span: BytesSpan, bytes: &[u8], result: &mut [u8], at: usize) -> us
 
 // Writes a reference: 5f if pushed, unsized and 0, else the opcode if pushed, then the value; the position after it.
 fn write_reference(section: StoredSection, table: &[u32], result: &mut [u8], at: usize) -> usize
-    requires { ⌜ IsReference section × MarksIn (now table) (referenceIn section .«mark_ref») ⌝ }
-    requires { ⌜ at + length (referenceBytes (referenceIn section) (valueBy (entry (now table)) (referenceIn section .«mark_ref»))) ≤ length (now result) ⌝ }
-    ensures next { λ n. ⌜ n ≡ at + length (referenceBytes (referenceIn section) (valueBy (entry (now (table .entry))) (referenceIn section .«mark_ref»))) ⌝ }
-    ensures result { λ _. ⌜ now (result .exit) ≡ over (now (result .entry)) at (referenceBytes (referenceIn section) (valueBy (entry (now (table .entry))) (referenceIn section .«mark_ref»))) ⌝ }
+    requires { ⌜ WritableReference (now table) section ⌝ }
+    requires { ⌜ Fits (now result) at (formBytes (formOf section) (valueWords (now table) section)) ⌝ }
+    ensures { λ n.
+        ⌜ Wrote (now (result .entry)) at
+        (formBytes (formOf section) (valueWords (now (table .entry)) section)) n (now (result .exit)) ⌝ }
 {
     let value = value_of(section, table);
     let form = form_of(section);
-    if is_push_zero(form, value) {
+    if form::is_push_zero(form, value) {
         result[at] = evm::op::PUSH0;
         return at + 1;
     }
-    let count = byte_count(form, value);
-    let start = write_opcode(8 <= form, count, result, at);
+    let count = form::byte_count(form, value);
+    let start = write_opcode(form::PUSHED <= form, count, result, at);
     write_value(count, value, result, start);
     start + (count as usize)
 }
 
 // A reference's value by the table.
 fn value_of(section: StoredSection, table: &[u32]) -> u32
-    requires { ⌜ IsReference section × MarksIn (now table) (referenceIn section .«mark_ref») ⌝ }
-    ensures { λ r. ⌜ r ≡ valueBy (entry (now (table .entry))) (referenceIn section .«mark_ref») ⌝ }
+    requires { ⌜ WritableReference (now table) section ⌝ }
+    ensures { λ r. ⌜ r ≡ valueWords (now (table .entry)) section ⌝ }
 {
     let first = section.first as usize;
-    if section.kind == 3 {
+    if section.kind == kind::DIRECT {
         return table[first];
     }
     let second = section.second as usize;
     table[second] - table[first]
 }
 
-// A reference's form, its set size plus 8 if pushed: a direct one has it as a word, a delta in its kind.
-fn form_of(section: StoredSection) -> u32
-    requires { ⌜ IsReference section ⌝ }
-    ensures { λ r. ⌜ r ≡ formNumber (referenceIn section) ⌝ }
-{
-    let kind = section.kind;
-    if kind == 3 {
-        return section.second;
-    }
-    if kind < 9 {
-        return kind + 4;
-    }
-    kind - 9
-}
-
-// Pushed, unsized and 0.
-fn is_push_zero(form: u32, value: u32) -> bool
-    ensures { λ b. ⌜ ((r : AsmReference) → form ≡ formNumber r → b ≡ isPushZero (r .«set_size») (r .pushed) value) ⌝ }
-{
-    if form == 8 {
-        return value == 0;
-    }
-    false
-}
-
-// The bytes that a value is written in: the set size, or the held bytes.
-fn byte_count(form: u32, value: u32) -> u32
-    ensures { λ n. ⌜ ((r : AsmReference) → form ≡ formNumber r → n ≡ byteCount (r .«set_size») value) ⌝ }
-{
-    let size = form % 8;
-    if size == 0 {
-        return bytes_to_hold(value).bytes();
-    }
-    size
-}
-
 // If pushed, the opcode; the position after it.
 fn write_opcode(pushed: bool, count: u32, result: &mut [u8], at: usize) -> usize
-    requires { ⌜ (count ≤ 4) × (at + length (opcode pushed count) ≤ length (now result)) ⌝ }
-    ensures next { λ r. ⌜ r ≡ at + length (opcode pushed count) ⌝ }
-    ensures result { λ _. ⌜ now (result .exit) ≡ over (now (result .entry)) at (opcode pushed count) ⌝ }
+    requires { ⌜ (count ≤ 4) × Fits (now result) at (opcode pushed count) ⌝ }
+    ensures { λ r. ⌜ Wrote (now (result .entry)) at (opcode pushed count) r (now (result .exit)) ⌝ }
 {
     if pushed {
         result[at] = evm::op::PUSH0 + (count as u8);

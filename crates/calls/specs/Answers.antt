@@ -4,7 +4,7 @@ use mathlib.Core.Path.{_≡_}
 use Prim.Native.Nat.{ℕ, _*_, _≤_}
 use mathlib.Core.Logic.{_↔_}
 use mathlib.Core.Bool.{Bool, true, false}
-use mathlib.Core.List.{List, [], _∷_}
+use mathlib.Core.List.{List, [], _∷_, _++_}
 use lib.ListN.{length, drop}
 use Rattle.units.specs.Replies.{badDepth, badWord, largeMark, bytesFull, sectionsFull, damaged}
 use Rattle.units.specs.Reply.{accepted, refused}
@@ -13,7 +13,8 @@ use Rattle.records.specs.Store.{Store, countsOf}
 use Rattle.records.specs.declared.Assembler.{Assembler}
 use Rattle.records.specs.Damage.{lastSoundness}
 use Rattle.records.specs.Sections.{decode}
-use Rattle.calls.specs.Calls.{BuiltReply, Push, Call, hasBadDepth, hasBadWord, hasLargeMark, added, withSection, bytesPass, sectionPasses, pushReply, callAfter}
+use Rattle.calls.specs.Calls.{BuiltReply, Push, Call, hasBadDepth, hasBadWord, hasLargeMark, added, withSection}
+use Rattle.calls.specs.Calls.{bytesPass, sectionPasses, pushReply, callAfter}
 use Rattle.calls.specs.Lists.{callList}
 use Rattle.undamaged.specs.View.{Undamaged, unsound}
 
@@ -26,23 +27,28 @@ NoneOf (b ∷ bs) = (b ≡ false) × NoneOf bs
 abbrev pub First : List Bool → Bool → ℕ → ℕ → Type 0
 First earlier condition i k = NoneOf earlier × (condition ≡ true) × (i ≡ 0) × (k ≡ 0)
 
+-- the tests of a call's own numbers, 1, 2 and 3
+abbrev pub ownTests : Push → List Bool
+ownTests p = hasBadDepth p ∷ hasBadWord p ∷ hasLargeMark p ∷ []
+
 -- when a call that adds to a store answers what, in the order 1, 2, 3, 6, 4, 5; there is no other answer
 pub record PushAnswers (w : ℕ) (p : Push) (st : Store) : Type 0 where
   pub badDepth-iff : (i k : ℕ) → (pushReply w p st ≡ refused badDepth i k) ↔ First [] (hasBadDepth p) i k
   pub badWord-iff : (i k : ℕ) → (pushReply w p st ≡ refused badWord i k) ↔ First (hasBadDepth p ∷ []) (hasBadWord p) i k
-  pub largeMark-iff : (i k : ℕ) → (pushReply w p st ≡ refused largeMark i k) ↔ First (hasBadDepth p ∷ hasBadWord p ∷ []) (hasLargeMark p) i k
+  pub largeMark-iff : (i k : ℕ)
+      → (pushReply w p st ≡ refused largeMark i k) ↔ First (hasBadDepth p ∷ hasBadWord p ∷ []) (hasLargeMark p) i k
   pub damaged-iff : (i k : ℕ)
       → (pushReply w p st ≡ refused damaged i k)
-      ↔ (NoneOf (hasBadDepth p ∷ hasBadWord p ∷ hasLargeMark p ∷ []) × (lastSoundness w st ≡ Damaged i) × (k ≡ 0))
+      ↔ (NoneOf (ownTests p) × (lastSoundness w st ≡ Damaged i) × (k ≡ 0))
   pub bytesFull-iff : (i k : ℕ)
       → (pushReply w p st ≡ refused bytesFull i k)
-      ↔ First (hasBadDepth p ∷ hasBadWord p ∷ hasLargeMark p ∷ unsound (lastSoundness w st) ∷ []) (bytesPass (added p) st) i k
+      ↔ First (ownTests p ++ (unsound (lastSoundness w st) ∷ [])) (bytesPass (added p) st) i k
   pub sectionsFull-iff : (i k : ℕ)
       → (pushReply w p st ≡ refused sectionsFull i k)
-      ↔ First (hasBadDepth p ∷ hasBadWord p ∷ hasLargeMark p ∷ unsound (lastSoundness w st) ∷ bytesPass (added p) st ∷ []) (sectionPasses w (added p) st) i k
+      ↔ First (ownTests p ++ (unsound (lastSoundness w st) ∷ bytesPass (added p) st ∷ [])) (sectionPasses w (added p) st) i k
   pub accepted-iff : (counts : Assembler)
       → (pushReply w p st ≡ accepted counts)
-      ↔ (NoneOf (hasBadDepth p ∷ hasBadWord p ∷ hasLargeMark p ∷ unsound (lastSoundness w st) ∷ bytesPass (added p) st ∷ sectionPasses w (added p) st ∷ [])
+      ↔ (NoneOf (ownTests p ++ (unsound (lastSoundness w st) ∷ bytesPass (added p) st ∷ sectionPasses w (added p) st ∷ []))
       × (counts ≡ countsOf (withSection w (added p) st)))
   pub numbers : (n i k : ℕ) → pushReply w p st ≡ refused n i k → (1 ≤ n) × (n ≤ 6)
 

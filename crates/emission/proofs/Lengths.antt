@@ -10,6 +10,7 @@ use Rattle.units.specs.Numbers.{heldBytes, bigEndian}
 use Rattle.units.specs.Reference.{refSizeBytes, opBytes, width, size}
 use Rattle.units.specs.declared.SetSize.{SetSize}
 use Rattle.units.specs.declared.SetSize.the-variants.{Unsized, Sized}
+use Rattle.units.specs.declared.MarkReference.{MarkReference}
 use Rattle.units.specs.declared.AsmReference.{AsmReference}
 use Rattle.units.proofs.BigEndian.{length-bigEndian}
 use Rattle.records.specs.Sections.{Section, mark, ops, bytes, reference}
@@ -17,7 +18,6 @@ use Rattle.layout.specs.Layout.{total}
 use Rattle.layout.specs.Passes.{entry, valueBy, sizeBy}
 use Rattle.layout.specs.Shortest.{settledLayout}
 use Rattle.emission.specs.Emission.{opcode, referenceBytes, sectionBytes, parts, inARow, codeOf, writtenLayout}
-use Rattle.units.specs.Reference.{byteCount, isPushZero}
 
 -- with its opcode, if pushed, a value has so many bytes
 length-value : (p : Bool) (n v : ℕ) → length (opcode p n ++ bigEndian n v) ≡ n + opBytes p
@@ -27,16 +27,16 @@ length-value false n v = omega (arith, length-bigEndian n v)
 -- a reference's bytes are as many as its size for the value
 pub length-reference : (r : AsmReference) (v : ℕ) → length (referenceBytes r v) ≡ size r v
 unfolding referenceBytes size
-length-reference r v = go (r .«set_size») (r .pushed)
+length-reference r v = go (r .«mark_ref») (r .«set_size») (r .pushed)
   where
     test : (b : Bool) → length (cond b (0x5f ∷ []) (opcode true (heldBytes v) ++ bigEndian (heldBytes v) v)) ≡ cond b 1 (heldBytes v + 1)
     test true = refl
     test false = length-value true (heldBytes v) v
 
-    go : (s : SetSize) (p : Bool) → length (cond (isPushZero s p v) (0x5f ∷ []) (opcode p (byteCount s v) ++ bigEndian (byteCount s v) v)) ≡ width s p v
-    go (Sized s) p = length-value p (refSizeBytes s) v
-    go Unsized true = test (eqb v 0)
-    go Unsized false = length-bigEndian (heldBytes v) v
+    go : (m : MarkReference) (s : SetSize) (p : Bool) → length (referenceBytes (record { «mark_ref» = m; «set_size» = s; pushed = p }) v) ≡ width s p v
+    go m (Sized s) p = length-value p (refSizeBytes s) v
+    go m Unsized true = test (eqb v 0)
+    go m Unsized false = length-bigEndian (heldBytes v) v
 
 -- a section's bytes are as many as its size
 pub length-section : (offset : ℕ → ℕ) (s : Section) → length (sectionBytes offset s) ≡ sizeBy offset s

@@ -17,7 +17,7 @@ use Rattle.layout.proofs.Answers.{settle-law}
 use Rattle.layout.proofs.Moves.{Still, run-absent}
 use Rattle.layout.proofs.Premises.{in-table}
 use Rattle.layout.proofs.Rule.{Starts, Sizes}
-use Rattle.layout.proofs.Today.{today, size-five}
+use Rattle.layout.proofs.WidthRule.{widthRule, size-five}
 use Rattle.layout.proofs.Walks.{InTable, start-run, walk-through}
 
 -- ---- a pass that stood still
@@ -31,17 +31,17 @@ StillAt t (reference r) at = tooNarrow r (valueBy t (r .«mark_ref»)) ≡ false
 
 -- what holds of a section, and that the others stood still
 abbrev Goes : (ℕ → ℕ) → Section → List Section → ℕ → ℕ → Type 0
-Goes t x ss s e = StillAt t x s × Still (Sizes today) ss (s + sizeBy t x) t e
+Goes t x ss s e = StillAt t x s × Still (Sizes widthRule) ss (s + sizeBy t x) t e
 
 -- a pass that stood still goes one section on
-still-cons : (t : ℕ → ℕ) (x : Section) (ss : List Section) (s e : ℕ) → Still (Sizes today) (x ∷ ss) s t e → Goes t x ss s e
+still-cons : (t : ℕ → ℕ) (x : Section) (ss : List Section) (s e : ℕ) → Still (Sizes widthRule) (x ∷ ss) s t e → Goes t x ss s e
 still-cons t (mark m) ss s e h = (h .0, rw (add-zero s) (h .1))
 still-cons t (ops bs) ss s e h = (tt, h)
 still-cons t (bytes bs) ss s e h = (tt, h)
-still-cons t (reference r) ss s e h = (h .1 .1, subst (λ (n : ℕ). Still (Sizes today) ss (s + n) t e) (h .1 .0) (h .2))
+still-cons t (reference r) ss s e h = (h .1 .1, subst (λ (n : ℕ). Still (Sizes widthRule) ss (s + n) t e) (h .1 .0) (h .2))
 
 -- so of section j
-pub still-at : (t : ℕ → ℕ) (ss : List Section) (s e : ℕ) → Still (Sizes today) ss s t e → (j : ℕ) → j < length ss
+pub still-at : (t : ℕ → ℕ) (ss : List Section) (s e : ℕ) → Still (Sizes widthRule) ss s t e → (j : ℕ) → j < length ss
     → StillAt t (sectionAt ss j) (s + total (take j (map (sizeBy t) ss)))
 unfolding total
 still-at t [] s e h j l = absurd (omega arith)
@@ -51,7 +51,7 @@ still-at t (x ∷ ss) s e h (suc j) l =
     subst (StillAt t (sectionAt ss j)) a (still-at t ss (s + sizeBy t x) e (still-cons t x ss s e h .1) j (omega arith))
 
 -- it comes to the sum of sizes
-pub still-sum : (t : ℕ → ℕ) (ss : List Section) (s e : ℕ) → Still (Sizes today) ss s t e → e ≡ s + total (map (sizeBy t) ss)
+pub still-sum : (t : ℕ → ℕ) (ss : List Section) (s e : ℕ) → Still (Sizes widthRule) ss s t e → e ≡ s + total (map (sizeBy t) ss)
 unfolding total
 still-sum t [] s e h = omega arith
 still-sum t (x ∷ ss) s e h = omega (arith, still-sum t ss (s + sizeBy t x) e (still-cons t x ss s e h .1))
@@ -76,7 +76,7 @@ start-long n ss i =
 
 -- a settled table has the table's length, and the last pass stood still by it
 pub settled-still : (n : ℕ) (ss : List Section) (table : List ℕ) (e k : ℕ) → Never ss (shortAt n ss) → settle n ss ≡ settled table e k
-    → (length table ≡ n) × Still (Sizes today) ss 0 (entry table) e
+    → (length table ≡ n) × Still (Sizes widthRule) ss 0 (entry table) e
 unfolding pass
 settled-still n ss table e k short h =
     let i : InTable n ss = in-table n ss short in
@@ -84,7 +84,7 @@ settled-still n ss table e k short h =
     let long : length (q .1) ≡ n = moving-long n ss i (q .0) (start n ss) (q .1) (start-long n ss i) (q .4) in
     let w = walk-through ss 0 0 false (q .1) e false table (subst (λ (x : ℕ). InTable x ss) (sym long) i) (q .5) in
     let calm = w .calm refl in
-    (w .long ∙ long, subst (λ (x : List ℕ). Still (Sizes today) ss 0 (entry x) e) (sym (calm .1)) (calm .2))
+    (w .long ∙ long, subst (λ (x : List ℕ). Still (Sizes widthRule) ss 0 (entry x) e) (sym (calm .1)) (calm .2))
 
 -- ---- marks that aren't placed
 
@@ -101,7 +101,7 @@ unfolding Moving pass
 moving-absent n ss i zero table last e h m p = ap (λ (t : List ℕ). entry t m) h
 moving-absent n ss i (suc k) table last e h m p =
     let q = walk-through ss 0 0 false table (h .0) true (h .1) (subst (λ (x : ℕ). InTable x ss) (sym e) i) (h .2) in
-    moving-absent n ss i k (h .1) last (q .long ∙ e) (h .3) m p ∙ run-absent (Sizes today) m ss 0 (entry table) (h .0) (entry (h .1)) p (q .run)
+    moving-absent n ss i k (h .1) last (q .long ∙ e) (h .3) m p ∙ run-absent (Sizes widthRule) m ss 0 (entry table) (h .0) (entry (h .1)) p (q .run)
 
 -- 'Unplaced entries of the table are 0'
 pub settled-absent : (n : ℕ) (ss : List Section) (table : List ℕ) (e k : ℕ) → Never ss (shortAt n ss) → settle n ss ≡ settled table e k
@@ -116,14 +116,14 @@ settled-absent n ss table e k short h m p =
     let s = start-run ss 0 table₀ (subst (λ (x : ℕ). InTable x ss) (sym (length-replicate n 0)) i) in
     ap (λ (t : List ℕ). entry t m) (w .calm refl .1)
     ∙ moving-absent n ss i (q .0) (start n ss) (q .1) (start-long n ss i) (q .4) m p
-    ∙ run-absent (Starts today) m ss 0 (entry table₀) (s .0) (entry (startFrom ss 0 table₀)) p (s .1)
+    ∙ run-absent (Starts widthRule) m ss 0 (entry table₀) (s .0) (entry (startFrom ss 0 table₀)) p (s .1)
     ∙ zeros n m
 
 -- ---- a bound
 
 -- a reference is at most five bytes
 size-small : (r : AsmReference) (v : ℕ) → size r v ≤ 5
-size-small r v = omega (arith, today .at-most r v, size-five r)
+size-small r v = omega (arith, widthRule .at-most r v, size-five r)
 
 -- so the sizes come to at most the stored bytes and five for each reference
 pub sizes-five : (t : ℕ → ℕ) (ss : List Section) → total (map (sizeBy t) ss) ≤ storedBytes ss + 5 * references ss

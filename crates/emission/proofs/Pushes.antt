@@ -32,9 +32,10 @@ use Rattle.layout.specs.Layout.{total, HoldsIn}
 use Rattle.layout.specs.Passes.{entry, valueBy, sizeBy}
 use Rattle.layout.specs.Conditions.{sectionAt, Never, someMark, placed, unplacedAt, backwardBy, backwardAt}
 use Rattle.layout.proofs.Layouts.{still-placed}
-use Rattle.layout.proofs.Moves.{Still, or-false}
+use Rattle.layout.proofs.Moves.{Still}
+use Rattle.slices.proofs.Tests.{or-false}
 use Rattle.layout.proofs.Rule.{Sizes}
-use Rattle.layout.proofs.Today.{today, size-holds}
+use Rattle.layout.proofs.WidthRule.{widthRule, size-holds}
 use Rattle.emission.specs.Emission.{opcode, referenceBytes, sectionBytes, parts, inARow, codeOf}
 use Rattle.units.specs.Reference.{byteCount, isPushZero}
 use Rattle.emission.specs.Pushes.{widthOf, placeOf, IsPlace, ValueHere, PushesAt, ReferencesHere}
@@ -134,7 +135,7 @@ part-stands ss table old position i h l =
 
 -- ---- values
 
-module _ (ss : List Section) (table : List ℕ) (e : ℕ) (still : Still (Sizes today) ss 0 (entry table) e) where
+module _ (ss : List Section) (table : List ℕ) (e : ℕ) (still : Still (Sizes widthRule) ss 0 (entry table) e) where
   -- each placing of a mark is at its entry
   at-place : (m : ℕ) → placed ss m ≡ true → IsPlace table ss m (entry table m)
   at-place m p = (
@@ -158,10 +159,10 @@ module _ (ss : List Section) (table : List ℕ) (e : ℕ) (still : Still (Sizes 
 
   -- its value is at most the length in all
   value-small : (r : MarkReference) → someMark (λ m. not (placed ss m)) r ≡ false → valueBy (entry table) r ≤ e
-  value-small (Direct m) p = still-placed (Sizes today) (m .0) ss 0 (entry table) e (not-false (placed ss (m .0)) p) still
+  value-small (Direct m) p = still-placed (Sizes widthRule) (m .0) ss 0 (entry table) e (not-false (placed ss (m .0)) p) still
   value-small (Delta d) p =
       let q = or-false (not (placed ss (d .start .0))) (not (placed ss (d .end .0))) p in
-      omega (arith, still-placed (Sizes today) (d .end .0) ss 0 (entry table) e (not-false (placed ss (d .end .0)) (q .1)) still)
+      omega (arith, still-placed (Sizes widthRule) (d .end .0) ss 0 (entry table) e (not-false (placed ss (d .end .0)) (q .1)) still)
 
   -- every reference of a code that stands in a result
   pub references-here : (old : List ℕ) (position : ℕ) → position ≤ length old → e < 2 ^ 32 → Never ss (unplacedAt ss) → Never ss (backwardAt table ss)

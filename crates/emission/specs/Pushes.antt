@@ -45,4 +45,5 @@ pub record ReferencesHere (ss : List Section) (table result : List ℕ) (positio
   pub pushed : (i : ℕ) (r : AsmReference) → i < length ss → sectionAt ss i ≡ reference r → r .pushed ≡ true
       → PushesAt result (position + placeOf table ss i) (widthOf table ss i) (valueBy (entry table) (r .«mark_ref»))
   -- and the value of each, pushed or raw, is where its marks are
-  pub values : (i : ℕ) (r : AsmReference) → i < length ss → sectionAt ss i ≡ reference r → ValueHere table ss (r .«mark_ref») (valueBy (entry table) (r .«mark_ref»))
+  pub values : (i : ℕ) (r : AsmReference) → i < length ss → sectionAt ss i ≡ reference r
+      → ValueHere table ss (r .«mark_ref») (valueBy (entry table) (r .«mark_ref»))

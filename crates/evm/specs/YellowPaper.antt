@@ -1,9 +1,10 @@
--- The Yellow Paper's stack instructions (sections 9.1, 9.4 and 9.5, appendix H.2), with PUSH0 of EIP-3855: what PUSH, DUP and SWAP do to a stack.
--- Code is a list of bytes; a stack is a list of numbers, top first. No other opcode is described in this file, and gas is left out.
+-- The Yellow Paper's stack instructions (sections 9.1, 9.4 and 9.5, appendix H.2), with PUSH0 of EIP-3855: what PUSH, DUP and SWAP do
+-- to a stack. Code is a list of bytes; a stack is a list of numbers, top first. No other opcode is described in this file, and gas is
+-- left out.
 -- Imports nothing of ours. Assumes nothing.
 use Prim.Native.Nat.{ℕ, zero, suc, _+_, _*_, _-_}
 use mathlib.Core.Bool.{Bool, cond, _&&_, _||_}
-use mathlib.Core.List.{List, [], _∷_}
+use mathlib.Core.List.{List, _∷_}
 use mathlib.Core.Option.{Option, none, some, bind}
 use lib.ListN.{length, getD, set}
 use lib.Dec.{leb, ltb}

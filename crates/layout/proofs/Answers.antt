@@ -161,7 +161,7 @@ miss ss test refusal next h =
 
 module _ (n : ℕ) (ss : List Section) where
   -- where 7, 8 and 9 aren't answered, the settling is
-  sound-answer : Sound n ss → answer n ss ≡ settlingAnswer ss (settle n ss)
+  pub sound-answer : Sound n ss → answer n ss ≡ settlingAnswer ss (settle n ss)
   unfolding answer firstShort firstUnplaced firstApart
   sound-answer h =
       miss ss (shortAt n ss) shortTable _ (h .0) ∙ miss ss (unplacedAt ss) unplaced _ (h .1) ∙ miss ss (apartAt ss) placedApart _ (h .2)

@@ -15,8 +15,9 @@ use Rattle.records.specs.Sections.{Section, mark, ops, bytes, reference}
 use Rattle.slices.specs.First.{leastFrom}
 use Rattle.layout.specs.Conditions.{sectionAt, someBelow, placesSome, placed, hasBytes, someBytes, bytesBetween, apartAt, sumOf}
 use Rattle.layout.proofs.Moves.{widthBy}
-use Rattle.layout.proofs.Today.{least-pos}
-use Rattle.layout.proofs.Least.{least-at, none-below}
+use Rattle.layout.proofs.WidthRule.{least-pos}
+use Rattle.slices.proofs.First.{leastFrom-least}
+use Rattle.layout.proofs.Least.{none-below}
 
 -- a section that places m is the mark m
 pub places-mark : (m : ℕ) (s : Section) → placesSome (eqb m) s ≡ true → s ≡ mark m
@@ -134,7 +135,7 @@ apart-there : (ss : List Section) (i : ℕ) → i < length ss → (x : Section) 
 apart-there ss i l (mark m) e h =
     let j : ℕ = leastFrom (parted ss i m) i 0 in
     let k : j < i = ltb-true j i h in
-    let q = and-both (placesSome (eqb m) (sectionAt ss j)) (bytesBetween ss j i) (least-at (parted ss i m) i 0 (omega arith)) in
+    let q = and-both (placesSome (eqb m) (sectionAt ss j)) (bytesBetween ss j i) (leastFrom-least (parted ss i m) i 0 .holds (omega arith)) in
     let at : sectionAt ss j ≡ mark m = places-mark m (sectionAt ss j) (q .0) in
     (m, j, e, k, at, ltb-true (leastBefore ss j) (leastBefore ss i) (sym (between-sums ss m j i k (omega arith) at) ∙ q .1))
 apart-there ss i l (ops bs) e h = absurd (false≢true h)

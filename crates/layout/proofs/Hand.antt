@@ -15,7 +15,7 @@ use Rattle.units.specs.declared.SetSize.{SetSize}
 use Rattle.units.specs.declared.SetSize.the-variants.{Unsized, Sized}
 use Rattle.units.specs.declared.MarkReference.the-variants.{Direct, Delta}
 use Rattle.units.proofs.BigEndian.{pow256-mono}
-use Rattle.records.specs.Sections.{Section, mark, ops, bytes, reference}
+use Rattle.records.specs.Sections.{Section, mark, bytes, reference}
 use Rattle.slices.specs.First.{leastFrom}
 use Rattle.layout.specs.Layout.{Layout, total, inAll, GivesEnough}
 use Rattle.layout.specs.Passes.{startFrom, start, walkFrom, pass, settled, narrowAt, passes, settle}

@@ -17,7 +17,7 @@ use Rattle.layout.specs.Conditions.{placed}
 use Rattle.layout.proofs.Runs.{Allows}
 use Rattle.layout.proofs.Moves.{Still, still-run, run-least}
 use Rattle.layout.proofs.Rule.{Sizes, Enough}
-use Rattle.layout.proofs.Today.{today, size-holds}
+use Rattle.layout.proofs.WidthRule.{widthRule, size-holds}
 use Rattle.layout.proofs.Walks.{All}
 
 -- the value of a reference that has one is what the passes read
@@ -26,18 +26,18 @@ value-read offset (Direct m) v h = h
 value-read offset (Delta d) v h = omega arith
 
 -- a layout that gives enough stands still
-pub enough-still : (offset : ℕ → ℕ) (ss : List Section) (ws : List ℕ) (s e : ℕ) → EnoughFrom offset ss ws s → e ≡ s + total ws → Still (Enough today) ss s offset e
+pub enough-still : (offset : ℕ → ℕ) (ss : List Section) (ws : List ℕ) (s e : ℕ) → EnoughFrom offset ss ws s → e ≡ s + total ws → Still (Enough widthRule) ss s offset e
 unfolding total
 enough-still offset [] [] s e h k = omega arith
 enough-still offset [] (w ∷ ws) s e h k = absurd h
 enough-still offset (x ∷ ss) [] s e h k = absurd h
 enough-still offset (mark m ∷ ss) (w ∷ ws) s e h k =
     let a : s + w ≡ s = omega (arith, h .0 .0) in
-    (h .0 .1, subst (λ (n : ℕ). Still (Enough today) ss n offset e) a (enough-still offset ss ws (s + w) e (h .1) (omega arith)))
+    (h .0 .1, subst (λ (n : ℕ). Still (Enough widthRule) ss n offset e) a (enough-still offset ss ws (s + w) e (h .1) (omega arith)))
 enough-still offset (ops bs ∷ ss) (w ∷ ws) s e h k =
-    subst (λ (n : ℕ). Still (Enough today) ss (s + n) offset e) (h .0) (enough-still offset ss ws (s + w) e (h .1) (omega arith))
+    subst (λ (n : ℕ). Still (Enough widthRule) ss (s + n) offset e) (h .0) (enough-still offset ss ws (s + w) e (h .1) (omega arith))
 enough-still offset (bytes bs ∷ ss) (w ∷ ws) s e h k =
-    subst (λ (n : ℕ). Still (Enough today) ss (s + n) offset e) (h .0) (enough-still offset ss ws (s + w) e (h .1) (omega arith))
+    subst (λ (n : ℕ). Still (Enough widthRule) ss (s + n) offset e) (h .0) (enough-still offset ss ws (s + w) e (h .1) (omega arith))
 enough-still offset (reference r ∷ ss) (w ∷ ws) s e h k =
     let v = h .0 .0 in
     let a : HoldsIn (r .«set_size») (r .pushed) (valueBy offset (r .«mark_ref»)) w =
@@ -52,7 +52,7 @@ Readable t (bytes bs) = Unit {0}
 Readable t (reference r) = HasValue t (r .«mark_ref») (valueBy t (r .«mark_ref»)) × (valueBy t (r .«mark_ref») < 2 ^ 32)
 
 -- a pass that stood still is a layout that gives enough, its widths the sizes by the offsets
-pub still-enough : (t : ℕ → ℕ) (ss : List Section) (s e : ℕ) → All (Readable t) ss → Still (Sizes today) ss s t e
+pub still-enough : (t : ℕ → ℕ) (ss : List Section) (s e : ℕ) → All (Readable t) ss → Still (Sizes widthRule) ss s t e
     → EnoughFrom t ss (map (sizeBy t) ss) s × (e ≡ s + total (map (sizeBy t) ss))
 unfolding total
 still-enough t [] s e k h = (tt, omega arith)
@@ -68,7 +68,7 @@ still-enough t (bytes bs ∷ ss) s e k h =
     ((refl, q .0), omega (arith, q .1))
 still-enough t (reference r ∷ ss) s e k h =
     let v = valueBy t (r .«mark_ref») in
-    let a : Still (Sizes today) ss (s + size r v) t e = subst (λ (n : ℕ). Still (Sizes today) ss (s + n) t e) (h .1 .0) (h .2) in
+    let a : Still (Sizes widthRule) ss (s + size r v) t e = subst (λ (n : ℕ). Still (Sizes widthRule) ss (s + n) t e) (h .1 .0) (h .2) in
     let q = still-enough t ss (s + size r v) e (k .1) a in
     (((v, k .0 .0, size-holds r v (k .0 .1) (h .1 .1)), q .0), omega (arith, q .1))
 

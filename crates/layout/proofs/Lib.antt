@@ -1,7 +1,7 @@
 pub mod Runs
 pub mod Moves
 pub mod Rule
-pub mod Today
+pub mod WidthRule
 pub mod Walks
 pub mod Layouts
 pub mod Least

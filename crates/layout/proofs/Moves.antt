@@ -3,7 +3,7 @@
 use Prim.Native.Nat.{ℕ, _+_, _-_, _≤_}
 use native.Mathlib.Omega.{arith}
 use mathlib.Core.Path.{_≡_, refl, sym, _∙_}
-use mathlib.Core.Bool.{Bool, true, false, cond, _||_, true≢false}
+use mathlib.Core.Bool.{Bool, true, false, cond}
 use mathlib.Core.List.{List, [], _∷_, _++_}
 use lib.Dec.{eqb, ltb}
 use lib.ListN.{length}
@@ -12,6 +12,7 @@ use Rattle.units.specs.declared.AsmReference.{AsmReference}
 use Rattle.records.specs.Sections.{Section, mark, ops, bytes, reference}
 use Rattle.layout.specs.Passes.{valueBy}
 use Rattle.layout.specs.Conditions.{placed, hasBytes, sumOf}
+use Rattle.slices.proofs.Tests.{or-false}
 use Rattle.layout.proofs.Runs.{Allows, Run, after, pass-mark, Tame, Below, below-on, below-mark, Narrower, width-le, compare}
 
 -- ---- runs without a move
@@ -105,11 +106,6 @@ Together (mark m ∷ ss) = Close m ss × Together ss
 Together (ops bs ∷ ss) = Together ss
 Together (bytes bs ∷ ss) = Together ss
 Together (reference r ∷ ss) = Together ss
-
--- neither of two tests holds
-pub or-false : (a b : Bool) → (a || b) ≡ false → (a ≡ false) × (b ≡ false)
-or-false true b e = absurd (true≢false e)
-or-false false b e = (refl, e)
 
 -- a mark that isn't placed keeps its offset
 pub run-absent : (z : Allows) (m : ℕ) (ss : List Section) (s : ℕ) (t : ℕ → ℕ) (e : ℕ) (u : ℕ → ℕ) → placed ss m ≡ false → Run z ss s t e u → u m ≡ t m

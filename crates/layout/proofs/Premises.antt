@@ -19,9 +19,10 @@ use Rattle.layout.specs.Passes.{valueBy}
 use Rattle.layout.specs.Conditions.{sectionAt, someBelow, Never, placesSome, someMark, refers, namesSome, placed, shortAt, unplacedAt, hasBytes, someBytes, bytesBetween, apartAt}
 use Rattle.layout.specs.Conditions.{sumOf, oneIfUnsized, storedBytes, references, passBound, isDelta, deltaAt, Premise}
 use Rattle.layout.proofs.Runs.{TameRef, Tame, pass-mark, after, none}
-use Rattle.layout.proofs.Moves.{Still, Close, Together, or-false, widthBy}
+use Rattle.layout.proofs.Moves.{Still, Close, Together, widthBy}
+use Rattle.slices.proofs.Tests.{or-false}
 use Rattle.layout.proofs.Rule.{Sizes}
-use Rattle.layout.proofs.Today.{growth, size-five, today}
+use Rattle.layout.proofs.WidthRule.{growth, size-five, widthRule}
 use Rattle.layout.proofs.Walks.{All, InTable}
 use Rattle.layout.proofs.Layouts.{Readable}
 use Rattle.layout.proofs.Least.{none-below}
@@ -171,7 +172,7 @@ pub record Ready (n : ℕ) (ss : List Section) : Type 0 where
   pub few : passBound ss ≤ 1023
   pub small : storedBytes ss + 5 * references ss < 2 ^ 32
   -- offsets by which a pass stands still give values to a layout, if those of placed marks are below 2^32
-  pub reads : (t : ℕ → ℕ) (e : ℕ) → Still (Sizes today) ss 0 t e → ((m : ℕ) → placed ss m ≡ true → t m < 2 ^ 32) → All (Readable t) ss
+  pub reads : (t : ℕ → ℕ) (e : ℕ) → Still (Sizes widthRule) ss 0 t e → ((m : ℕ) → placed ss m ≡ true → t m < 2 ^ 32) → All (Readable t) ss
 
 -- demand 3's premise makes it so
 pub ready : {n : ℕ} {ss : List Section} → Premise n ss → Ready n ss

@@ -18,7 +18,7 @@ use Rattle.layout.specs.Shortest.{settledLayout, SomeLayout, IsSettled, 
 use Rattle.layout.proofs.Runs.{after, none, Tame}
 use Rattle.layout.proofs.Moves.{Still, still-run, widthBy}
 use Rattle.layout.proofs.Rule.{Sizes, Enough, Reached, reached-start, reached-pass, reached-rests, Above, above-start, above-pass, above-sum, sum-most, sum-start, no-room}
-use Rattle.layout.proofs.Today.{today}
+use Rattle.layout.proofs.WidthRule.{widthRule}
 use Rattle.layout.proofs.Walks.{All, all-first, InTable, start-run, Through, walk-through, Left, walk-left}
 use Rattle.layout.proofs.Layouts.{enough-still, still-enough, still-placed, Readable}
 use Rattle.layout.proofs.Premises.{Ready, sum-growth, sum-five}
@@ -49,26 +49,26 @@ module _ (n : ℕ) (ss : List Section) (given : Ready n ss) where
   base = sumOf (widthBy leastSize) ss
 
   -- a layout stands still
-  layout-still : (l : Layout) → GivesEnough ss l → Still (Enough today) ss 0 (l .offset) (inAll l)
+  layout-still : (l : Layout) → GivesEnough ss l → Still (Enough widthRule) ss 0 (l .offset) (inAll l)
   layout-still l h = enough-still (l .offset) ss (l .widths) 0 (inAll l) h (omega arith)
 
   -- a pass that stood still, by a table that no layout is below
-  settled-verdict : (table : List ℕ) (e k : ℕ) → Above today ss tame (entry table) → Still (Sizes today) ss 0 (entry table) e → k ≤ passBound ss + 1
+  settled-verdict : (table : List ℕ) (e k : ℕ) → Above widthRule ss tame (entry table) → Still (Sizes widthRule) ss 0 (entry table) e → k ≤ passBound ss + 1
       → Verdict ss (settled table e k)
   settled-verdict table e k above still bound =
-      let run = still-run (Sizes today) ss 0 (entry table) e still in
-      let small : e < 2 ^ 32 = omega (arith, sum-most today ss tame (entry table) (entry table) e run, sum-five ss, given .small) in
+      let run = still-run (Sizes widthRule) ss 0 (entry table) e still in
+      let small : e < 2 ^ 32 = omega (arith, sum-most widthRule ss tame (entry table) (entry table) e run, sum-five ss, given .small) in
       let reads : All (Readable (entry table)) ss =
-      given .reads (entry table) e still (λ m p. omega (arith, still-placed (Sizes today) m ss 0 (entry table) e p still)) in
+      given .reads (entry table) e still (λ m p. omega (arith, still-placed (Sizes widthRule) m ss 0 (entry table) e p still)) in
       let q = still-enough (entry table) ss 0 e reads still in (
         q .0,
         omega (arith, q .1),
-        λ l h. ((above (l .offset) (inAll l) (layout-still l h)) .marks, above-sum today ss tame (entry table) (entry table) e above run (l .offset) (inAll l) (layout-still l h)),
+        λ l h. ((above (l .offset) (inAll l) (layout-still l h)) .marks, above-sum widthRule ss tame (entry table) (entry table) e above run (l .offset) (inAll l) (layout-still l h)),
         bound,
       )
 
   -- a walk that was left, from a table that no layout is below
-  narrow-verdict : (table : List ℕ) (i k : ℕ) → length table ≡ n → Above today ss tame (entry table) → Left ss 0 0 false table i → k ≤ passBound ss + 1
+  narrow-verdict : (table : List ℕ) (i k : ℕ) → length table ≡ n → Above widthRule ss tame (entry table) → Left ss 0 0 false table i → k ≤ passBound ss + 1
       → Verdict ss (narrowAt i k)
   narrow-verdict table i k long above q bound =
       let here : InTable (length table) (q .before) =
@@ -76,7 +76,7 @@ module _ (n : ℕ) (ss : List Section) (given : Ready n ss) where
       (subst (λ (l : List Section). InTable (length table) l) (q .parts) (subst (λ (x : ℕ). InTable x ss) (sym long) (given .inTable))) in
       let walked = walk-through (q .before) 0 0 false table (q .sum) (q .moved′) (q .table′) here (q .walked) in (
         λ l h.
-            no-room today ss tame (q .before) (q .later) (q .narrow) (entry table) (entry (q .table′)) (q .sum) (q .parts) above (walked .run)
+            no-room widthRule ss tame (q .before) (q .later) (q .narrow) (entry table) (entry (q .table′)) (q .sum) (q .parts) above (walked .run)
             (λ fits. true≢false (sym (q .tooNarrow) ∙ fits)) (l .offset) (inAll l) (layout-still l h),
         bound,
       )
@@ -84,8 +84,8 @@ module _ (n : ℕ) (ss : List Section) (given : Ready n ss) where
   -- a table reached by pass k - 1 (the start for k = 1), e its sum
   record At (k : ℕ) (table : List ℕ) (e : ℕ) : Type 1 where
     long : length table ≡ n
-    reached : Reached today ss tame (entry table) e
-    above : Above today ss tame (entry table)
+    reached : Reached widthRule ss tame (entry table) e
+    above : Above widthRule ss tame (entry table)
     -- each pass so far has added to the sum of least sizes
     low : base + k ≤ e + 1
     high : e ≤ base + passBound ss
@@ -97,12 +97,12 @@ module _ (n : ℕ) (ss : List Section) (given : Ready n ss) where
       let zero-table : List ℕ = replicate n 0 in
       let long : length zero-table ≡ n = length-replicate n 0 in
       let q = start-run ss 0 zero-table (subst (λ (x : ℕ). InTable x ss) (sym long) (given .inTable)) in
-      let sum : q .0 ≡ base = sum-start today ss tame (entry zero-table) (entry (startFrom ss 0 zero-table)) (q .0) (q .1) in (
+      let sum : q .0 ≡ base = sum-start widthRule ss tame (entry zero-table) (entry (startFrom ss 0 zero-table)) (q .0) (q .1) in (
         q .0,
         record {
           long = q .2 ∙ long;
-          reached = reached-start today ss tame (entry zero-table) (zeros n) (q .1);
-          above = above-start today ss tame (entry zero-table) (entry (startFrom ss 0 zero-table)) (q .0) (zeros n) (q .1);
+          reached = reached-start widthRule ss tame (entry zero-table) (zeros n) (q .1);
+          above = above-start widthRule ss tame (entry zero-table) (entry (startFrom ss 0 zero-table)) (q .0) (zeros n) (q .1);
           low = omega arith;
           high = omega arith;
         },
@@ -113,10 +113,10 @@ module _ (n : ℕ) (ss : List Section) (given : Ready n ss) where
   at-next k table e e′ table′ a q =
       record {
         long = q .long ∙ a .long;
-        reached = reached-pass today ss tame (a .reached) (q .run);
-        above = above-pass today ss tame (entry table) (entry table′) e′ (a .above) (q .run);
+        reached = reached-pass widthRule ss tame (a .reached) (q .run);
+        above = above-pass widthRule ss tame (entry table) (entry table′) e′ (a .above) (q .run);
         low = omega (arith, a .low, more (ltb e e′) refl);
-        high = omega (arith, sum-most today ss tame (entry table) (entry table′) e′ (q .run), sum-growth ss);
+        high = omega (arith, sum-most widthRule ss tame (entry table) (entry table′) e′ (q .run), sum-growth ss);
       }
     where
       -- otherwise it would have moved none
@@ -125,7 +125,7 @@ module _ (n : ℕ) (ss : List Section) (given : Ready n ss) where
       more false h =
           absurd
           (true≢false
-          (q .resting (reached-rests today ss tame (entry table′) e′ (given .together) (a .reached) (q .run) (ltb-false e e′ h))))
+          (q .resting (reached-rests widthRule ss tame (entry table′) e′ (given .together) (a .reached) (q .run) (ltb-false e e′ h))))
 
   -- whatever the passes that are left come to
   verdict : (left k : ℕ) (table : List ℕ) (e : ℕ) → left + k ≡ 1025 → At k table e → Verdict ss (passes left k ss table)

@@ -15,9 +15,10 @@ use Rattle.records.specs.Sections.{Section, mark, ops, bytes, reference}
 use Rattle.layout.specs.Passes.{entry, valueBy, startFrom, through, leftAt, unlike, walkFrom}
 use Rattle.layout.specs.Conditions.{placesSome}
 use Rattle.layout.proofs.Runs.{Put, Run}
-use Rattle.layout.proofs.Moves.{Still, Rests, or-false}
+use Rattle.layout.proofs.Moves.{Still, Rests}
+use Rattle.slices.proofs.Tests.{or-false}
 use Rattle.layout.proofs.Rule.{Starts, Sizes}
-use Rattle.layout.proofs.Today.{today}
+use Rattle.layout.proofs.WidthRule.{widthRule}
 
 -- a property of every section
 abbrev pub All : (Section → Type 0) → List Section → Type 0
@@ -55,7 +56,7 @@ set-unlike table m s = go (eqb (entry table m) s) refl
 
 -- the start table is what a run with least widths comes to
 pub start-run : (ss : List Section) (s : ℕ) (table : List ℕ) → InTable (length table) ss
-    → (e : ℕ) × Run (Starts today) ss s (entry table) e (entry (startFrom ss s table)) × (length (startFrom ss s table) ≡ length table)
+    → (e : ℕ) × Run (Starts widthRule) ss s (entry table) e (entry (startFrom ss s table)) × (length (startFrom ss s table) ≡ length table)
 unfolding startFrom
 start-run [] s table k = (s, (refl, λ a. refl), refl)
 start-run (mark m ∷ ss) s table k =
@@ -71,10 +72,10 @@ start-run (reference r ∷ ss) s table k =
 
 -- a walk that goes through: it is a run; if the run rests, nothing was moved; if nothing was moved, the table stands still
 pub record Through (ss : List Section) (s : ℕ) (moved : Bool) (table : List ℕ) (e : ℕ) (moved′ : Bool) (table′ : List ℕ) : Type 0 where
-  pub run : Run (Sizes today) ss s (entry table) e (entry table′)
+  pub run : Run (Sizes widthRule) ss s (entry table) e (entry table′)
   pub long : length table′ ≡ length table
-  pub resting : Rests (Sizes today) ss s (entry table) e (entry table′) run → moved′ ≡ moved
-  pub calm : moved′ ≡ false → (moved ≡ false) × (table′ ≡ table) × Still (Sizes today) ss s (entry table) e
+  pub resting : Rests (Sizes widthRule) ss s (entry table) e (entry table′) run → moved′ ≡ moved
+  pub calm : moved′ ≡ false → (moved ≡ false) × (table′ ≡ table) × Still (Sizes widthRule) ss s (entry table) e
 
 -- a test that fails adds nothing
 or-left : (a b : Bool) → b ≡ false → (a || b) ≡ a
@@ -98,13 +99,13 @@ mark-through m ss s moved table e moved′ table′ l q =
       calm = calm;
     }
   where
-    calm : moved′ ≡ false → (moved ≡ false) × (table′ ≡ table) × Still (Sizes today) (mark m ∷ ss) s (entry table) e
+    calm : moved′ ≡ false → (moved ≡ false) × (table′ ≡ table) × Still (Sizes widthRule) (mark m ∷ ss) s (entry table) e
     calm h =
         let k = q .calm h in
         let o = or-false moved (unlike table m s) (k .0) in
         let i : entry table m ≡ s = eqb-true (entry table m) s (not-false (eqb (entry table m) s) (o .1)) in
         let j : set table m s ≡ table = set-same table m s i in
-        (o .0, k .1 ∙ j, (i, subst (λ (x : List ℕ). Still (Sizes today) ss s (entry x) e) j (k .2)))
+        (o .0, k .1 ∙ j, (i, subst (λ (x : List ℕ). Still (Sizes widthRule) ss s (entry x) e) j (k .2)))
 
 -- a walk that goes through is a run
 pub walk-through : (ss : List Section) (i s : ℕ) (moved : Bool) (table : List ℕ) (e : ℕ) (moved′ : Bool) (table′ : List ℕ) → InTable (length table) ss

@@ -125,7 +125,8 @@ Moving ss (suc k) table table′ = (sum : ℕ) × (next : List ℕ) × (pass ss 
 
 -- pass k, after k - 1 that moved a mark and one of the passes allowed, goes as said
 abbrev pub PassGoes : ℕ → List Section → ℕ → Walked → Type 0
-PassGoes n ss k walk = (before : ℕ) × (table : List ℕ) × (k ≡ before + 1) × (k ≤ maxPasses) × Moving ss before (start n ss) table × (pass ss table ≡ walk)
+PassGoes n ss k walk =
+    (before : ℕ) × (table : List ℕ) × (k ≡ before + 1) × (k ≤ maxPasses) × Moving ss before (start n ss) table × (pass ss table ≡ walk)
 
 -- what each answer of the settling means
 abbrev pub Means : ℕ → List Section → Settling → Type 0

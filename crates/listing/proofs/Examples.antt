@@ -1,7 +1,6 @@
 -- The definitions of the listing, computed: the listing of document 01's line 12, and the line forms that it lacks. Assumes nothing.
-use Prim.Native.Nat.{ℕ}
 use mathlib.Core.Path.{_≡_, refl}
-use mathlib.Core.Bool.{true, false}
+use mathlib.Core.Bool.{false}
 use mathlib.Core.List.{[], _∷_}
 use Rattle.evm.specs.YellowPaper.{isPush, pushSize, instructionLength}
 use Rattle.evm.specs.Walk.{walkFrom, walk}

@@ -1,7 +1,7 @@
 -- How long a listing can be: no more than 2 ^ 30 for a section, so that its length is far below 2 ^ 64. Assumes nothing.
-use Prim.Native.Nat.{ℕ, zero, suc, _+_, _*_, _-_, _≤_, _<_, _^_}
+use Prim.Native.Nat.{ℕ, zero, suc, _+_, _*_, _-_, _≤_, _^_}
 use native.Mathlib.Omega.{arith}
-use mathlib.Core.Path.{_≡_, refl, sym, ap, _∙_}
+use mathlib.Core.Path.{ap, _∙_}
 use mathlib.Core.Bool.{Bool, true, false, cond}
 use mathlib.Core.List.{List, [], _∷_, _++_}
 use lib.ListN.{length, take, drop, length-append, length-take, length-drop}
@@ -12,14 +12,12 @@ use Rattle.evm.specs.Walk.{Placed, walkFrom, walk}
 use Rattle.evm.proofs.Walks.{next-drop}
 use Rattle.opcodes.specs.Text.{asBytes}
 use Rattle.opcodes.proofs.Naming.{name-fits}
-use Rattle.units.specs.declared.RefSize.{RefSize}
 use Rattle.units.specs.declared.RefSize.the-variants.{S1, S2, S3, S4}
 use Rattle.units.specs.declared.SetSize.{SetSize}
 use Rattle.units.specs.declared.SetSize.the-variants.{Unsized, Sized}
 use Rattle.units.specs.declared.MarkReference.{MarkReference}
 use Rattle.units.specs.declared.MarkReference.the-variants.{Direct, Delta}
 use Rattle.units.specs.declared.AsmReference.{AsmReference}
-use Rattle.units.specs.Reference.{refSizeBytes}
 use Rattle.records.specs.Record.{maxMark}
 use Rattle.records.specs.Store.{maxBytes}
 use Rattle.records.specs.Sections.{sectionRead}
@@ -27,7 +25,6 @@ use Rattle.records.specs.declared.record.AsmSection.the-variants.{Mark, Ops, Da
 use Rattle.records.specs.declared.record.SectionRead.{SectionRead}
 use Rattle.records.specs.declared.record.SectionRead.the-variants.{Read, Damaged}
 use Rattle.undamaged.specs.Section.{spanBytes, SmallMarks, ReadIn}
-use Rattle.listing.specs.Decimal.{decimal}
 use Rattle.listing.specs.Listing.{hex, markName, markLine, dataLine, cutText, immediateText, instructionLine, instructionLines, opsLines, pushText, deltaText, marksText, sizeText, referenceLine, sectionText}
 use Rattle.listing.proofs.Digits.{decimal-length}
 use Rattle.listing.proofs.Turns.{hex-length}

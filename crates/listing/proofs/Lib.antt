@@ -5,6 +5,6 @@ pub mod Rooms
 pub mod Lengths
 pub mod Every
 pub mod SectionLines
-pub mod Answers
+pub mod ListingAnswers
 pub mod Examples
 pub mod Held

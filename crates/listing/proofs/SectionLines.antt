@@ -1,7 +1,6 @@
 -- The text of a section of an undamaged store, by its kind word: one law for each way that the code goes. Assumes nothing.
 use Prim.Native.Nat.{ℕ, _≤_}
-use native.Mathlib.Omega.{arith}
-use mathlib.Core.Path.{_≡_, refl, sym, ap, _∙_, subst}
+use mathlib.Core.Path.{_≡_, sym, ap, _∙_, subst}
 use mathlib.Core.Bool.{false}
 use mathlib.Core.List.{List, [], _∷_}
 use lib.ListN.{length}
@@ -19,30 +18,26 @@ use Rattle.records.specs.declared.record.StoredSection.{StoredSection}
 use Rattle.records.proofs.record.AsmSection.{the-type}
 use Rattle.undamaged.specs.Section.{spanBytes, SpanIn, ReadIn}
 use Rattle.undamaged.proofs.Reading.{reads, mark-read, ops-read, data-read, reference-read}
+use Rattle.undamaged.proofs.Sections.{can-read}
 use Rattle.listing.specs.Listing.{markLine, opsLines, dataLine, referenceLine, sectionText}
 use Rattle.listing.specs.Put.{wordsText}
 
--- a section of an undamaged store can be read
-readable : (n : ℕ) (v : SectionRead) → ReadIn n v → unreadable v ≡ false
-readable n (Read s) h = refl
-readable n Damaged h = absurd h
-
 module _ (bs : List ℕ) (x : StoredSection) (here : ReadIn (length bs) (readSection x)) where
-  can-read : unreadable (readSection x) ≡ false
-  can-read = readable (length bs) (readSection x) here
+  readable : unreadable (readSection x) ≡ false
+  readable = can-read (length bs) (readSection x) here
 
   -- the text of what it is read as
   text-of : (v : SectionRead) → readSection x ≡ v → wordsText bs x ≡ sectionText (sectionRead bs v)
   text-of v e = ap (λ (y : SectionRead). sectionText (sectionRead bs y)) e
 
   pub text-mark : x .kind ≡ markKind → wordsText bs x ≡ markLine (x .first)
-  text-mark k = text-of _ (mark-read (reads x) can-read k)
+  text-mark k = text-of _ (mark-read (reads x) readable k)
 
   pub text-ops : x .kind ≡ opsKind → SpanIn (length bs) (span (x .first) (x .second)) × (wordsText bs x ≡ opsLines (spanBytes bs (span (x .first) (x .second))))
-  text-ops k = let e = ops-read (reads x) can-read k in (subst (ReadIn (length bs)) e here, text-of _ e)
+  text-ops k = let e = ops-read (reads x) readable k in (subst (ReadIn (length bs)) e here, text-of _ e)
 
   pub text-data : x .kind ≡ dataKind → SpanIn (length bs) (span (x .first) (x .second)) × (wordsText bs x ≡ dataLine (spanBytes bs (span (x .first) (x .second))))
-  text-data k = let e = data-read (reads x) can-read k in (subst (ReadIn (length bs)) e here, text-of _ e)
+  text-data k = let e = data-read (reads x) readable k in (subst (ReadIn (length bs)) e here, text-of _ e)
 
   -- the other kinds are references
   module _ (k : directKind ≤ x .kind) {v : SectionRead} (e : v ≡ readSection x) where
@@ -54,6 +49,6 @@ module _ (bs : List ℕ) (x : StoredSection) (here : ReadIn (length bs) (readSec
 
     pub never-other : (s : AsmSection) → v ≡ Read s → OneOf (0 ∷ 1 ∷ 2 ∷ []) (tagOf the-type s) → ⊥
     never-other s i o =
-        let found = reference-read (reads x) can-read k in
+        let found = reference-read (reads x) readable k in
         let same : s ≡ MarkRef (found .0) = cc in
         miss (0 ∷ 1 ∷ 2 ∷ []) _ tt (subst (λ (y : AsmSection). OneOf (0 ∷ 1 ∷ 2 ∷ []) (tagOf the-type y)) same o)

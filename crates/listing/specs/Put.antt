@@ -1,6 +1,6 @@
 -- Private to the functions of this crate: what those that add text ask and promise. No public contract cites it. A slice takes what
 -- fits into it, so that the same walk counts, on an empty slice, and writes. Assumes nothing.
-use Prim.Native.Nat.{ℕ, _+_, _≤_, _<_, _^_}
+use Prim.Native.Nat.{ℕ, _+_, _<_, _^_}
 use mathlib.Core.Path.{_≡_}
 use mathlib.Core.List.{List}
 use lib.ListN.{length, getD, take}

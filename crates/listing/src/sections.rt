@@ -15,7 +15,7 @@ use units::MarkId;
 ghost use mathlib.Core.Path.{_≡_};
 ghost use Prim.Native.Nat.{_+_, _*_, _≤_};
 ghost use lib.ListN.{length};
-ghost use Rattle.records.specs.Record.{readSection, directKind};
+ghost use Rattle.records.specs.Record.{readSection};
 ghost use Rattle.records.specs.Store.{storeOf, wordsPerSection, wordsAt};
 ghost use Rattle.undamaged.specs.Section.{ReadIn};
 ghost use Rattle.listing.specs.Put.{Put, Room, wordsText, storeText, Listable};

@@ -3,7 +3,6 @@
 use crate::sections::put_sections;
 use records::Assembler;
 ghost use mathlib.Core.Path.{_≡_};
-ghost use lib.ListN.{length};
 ghost use Rattle.records.specs.Store.{wordsPerSection};
 ghost use Rattle.listing.specs.Put.{Put, Listable, storeText, storeWith};
 

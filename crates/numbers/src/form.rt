@@ -4,14 +4,14 @@ use records::set_size_of;
 use units::AsmReference;
 use units::MarkReference;
 use units::SetSize;
+use units::form::MAX;
+use units::form::MAX_SIZE;
+use units::form::PUSHED;
 ghost use mathlib.Core.Path.{_≡_};
 ghost use Prim.Native.Nat.{_%_};
 ghost use lib.Dec.{leb};
 ghost use Rattle.records.specs.Record.{setSizeOf};
 ghost use Rattle.numbers.specs.Forms.{formOf, formed, isForm, formKind};
-
-// Added to the set size of a pushed reference.
-const PUSHED: u32 = 8;
 
 // What a form names.
 pub enum Form {
@@ -34,13 +34,13 @@ pub fn form_of(form: u32) -> Form
 pub fn is_form(form: u32) -> bool
     ensures { λ r. ⌜ r ≡ isForm form ⌝ }
 {
-    if form <= 4 {
+    if form <= MAX_SIZE {
         return true;
     }
     if form < PUSHED {
         return false;
     }
-    form <= 12
+    form <= MAX
 }
 
 // The kind word of a delta of a form.

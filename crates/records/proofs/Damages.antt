@@ -2,7 +2,6 @@
 use Prim.Native.Nat.{ℕ, zero, suc, _+_, _*_, _-_, _≤_, _<_}
 use native.Mathlib.Omega.{arith}
 use mathlib.Core.Path.{_≡_, refl, sym, _∙_, ap}
-use native.Mathlib.Nat.{sub-zero}
 use mathlib.Core.Bool.{Bool, true, false, not, cond, _&&_, true≢false}
 use native.Mathlib.Numerals.{add-one}
 use lib.Dec.{leb, ltb, eqb}
@@ -10,8 +9,8 @@ use lib.ListN.{length}
 use borrow.Author.Tests.{lt-ltb, le-ltb, le-leb, lt-leb, eq-eqb, ne-eqb, leb-true, leb-false, not-false}
 use Rattle.records.specs.Record.{readSection}
 use Rattle.records.specs.Store.{Store, maxBytes, maxSections, sectionWords, badCounts}
-use Rattle.records.specs.Damage.{unreadable, isSpan, brokenSection, brokenLast, endBefore, spansEnd, breaksRule, firstBroken, badCount, brokenReply, wholeSoundness, lastBroken, badCountBuilding, lastSoundness}
-use Rattle.slices.specs.First.{leastFrom}
+use Rattle.records.specs.Damage.{unreadable, isSpan, brokenSection, brokenLast, endBefore, spansEnd, breaksRule, badCount, brokenReply, wholeSoundness, lastBroken, badCountBuilding, lastSoundness}
+use Rattle.slices.proofs.First.{NoneBefore, search-start, search-next, search-hit, search-done}
 use Rattle.records.specs.declared.record.StoredSection.{StoredSection}
 use Rattle.records.specs.declared.damage.Soundness
 use Rattle.records.specs.declared.damage.Soundness.{Soundness}
@@ -121,31 +120,13 @@ module _ (w : ℕ) (st : Store) where
   unfolding endBefore
   end-next i = rw add-one
 
-  -- a section that breaks a rule is the first
-  pub least-hit : (test : ℕ → Bool) (k i : ℕ) → 0 < k → test i ≡ true → leastFrom test k i ≡ i
-  unfolding leastFrom
-  least-hit test zero i l t = absurd (omega arith)
-  least-hit test (suc k) i l t = rw t
-
-  -- one that breaks none is passed
-  pub least-miss : (test : ℕ → Bool) (k i : ℕ) → 0 < k → test i ≡ false → leastFrom test k i ≡ leastFrom test (k - 1) (i + 1)
-  unfolding leastFrom
-  least-miss test zero i l t = absurd (omega arith)
-  least-miss test (suc k) i l t =
-      let e : suc k - 1 ≡ k = omega arith in
-      rw (t, e, add-one)
-
-  pub least-none : (test : ℕ → Bool) (i : ℕ) → leastFrom test 0 i ≡ i
-  unfolding leastFrom
-  least-none test i = refl
-
 -- a walk over the sections that has found none broken before i, with the end of the last Ops or Data section before it
 abbrev pub Walked : ℕ → Store → ℕ → ℕ → Type 0
-Walked w st i end = (i ≤ st .sections) × (end ≡ endBefore w st i) × (leastFrom (breaksRule w st) (st .sections - i) i ≡ firstBroken w st)
+Walked w st i end = (i ≤ st .sections) × (end ≡ endBefore w st i) × NoneBefore (breaksRule w st) i
 
 module _ (w : ℕ) (st : Store) where
   pub walk-start : Walked w st 0 0
-  walk-start = (omega arith, sym (end-none w st), ap (λ (k : ℕ). leastFrom (breaksRule w st) k 0) (sub-zero (st .sections)))
+  walk-start = (omega arith, sym (end-none w st), search-start (breaksRule w st))
 
   -- what the code tests of section i is that it breaks a rule
   pub walk-test :
@@ -157,29 +138,19 @@ module _ (w : ℕ) (st : Store) where
   pub walk-next :
       (i end next : ℕ) → Walked w st i end → i < st .sections → breaksRule w st i ≡ false
       → next ≡ cond (isSpan (sectionWords w st i .kind)) (sectionWords w st i .second) end → Walked w st (i + 1) next
-  walk-next i end next h l b e =
-      let k : 0 < st .sections - i = omega arith in
-      let j : st .sections - i - 1 ≡ st .sections - (i + 1) = omega arith in (
-        omega arith,
-        e ∙ ap (cond (isSpan (sectionWords w st i .kind)) (sectionWords w st i .second)) (h .1) ∙ sym (end-next w st i),
-        ap (λ (n : ℕ). leastFrom (breaksRule w st) n (i + 1)) (sym j) ∙ sym (least-miss w st (breaksRule w st) (st .sections - i) i k b) ∙ h .2,
-      )
+  walk-next i end next h l b e = (
+    omega arith,
+    e ∙ ap (cond (isSpan (sectionWords w st i .kind)) (sectionWords w st i .second)) (h .1) ∙ sym (end-next w st i),
+    search-next (breaksRule w st) i (h .2) b,
+  )
 
   pub walk-broken : (i end : ℕ) → Walked w st i end → i < st .sections → breaksRule w st i ≡ true → Soundness.Damaged i ≡ brokenReply w st
   unfolding brokenReply
-  walk-broken i end h l b =
-      let k : 0 < st .sections - i = omega arith in
-      let e : firstBroken w st ≡ i = sym (h .2) ∙ least-hit w st (breaksRule w st) (st .sections - i) i k b in
-      let t : ltb i (st .sections) ≡ true = lt-ltb _ _ l in
-      rw (e, t)
+  walk-broken i end h l b = rw (← search-hit (breaksRule w st) (st .sections) i (h .2) l b, lt-ltb _ _ l)
 
   pub walk-done : (i end : ℕ) → Walked w st i end → st .sections ≤ i → Soundness.Sound ≡ brokenReply w st
   unfolding brokenReply
-  walk-done i end h l =
-      let k : st .sections - i ≡ 0 = omega arith in
-      let e : firstBroken w st ≡ i = sym (h .2) ∙ ap (λ (n : ℕ). leastFrom (breaksRule w st) n i) k ∙ least-none w st (breaksRule w st) i in
-      let t : ltb i (st .sections) ≡ false = le-ltb _ _ l in
-      rw (e, t)
+  walk-done i end h l = rw (← search-done (breaksRule w st) (st .sections) i (h .2) (h .0) l, le-ltb _ _ l)
 
   -- the whole test
   pub whole-counts : badCounts w st ≡ true → Soundness.Damaged 0 ≡ wholeSoundness w st

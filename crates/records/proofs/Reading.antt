@@ -1,7 +1,7 @@
 -- Laws of the definitions that read a section from its words: one for each way that the code goes. Assumes nothing.
 use Prim.Native.Nat.{ℕ, _+_, _-_, _≤_, _<_}
 use native.Mathlib.Omega.{arith}
-use mathlib.Core.Path.{_≡_, refl}
+use mathlib.Core.Path.{_≡_}
 use mathlib.Core.Bool.{Bool, true, false}
 use lib.Dec.{leb, ltb, eqb}
 use borrow.Author.Tests.{lt-ltb, le-ltb, le-leb, lt-leb, eq-eqb, ne-eqb}
@@ -10,15 +10,13 @@ use Rattle.units.specs.declared.MarkId.{MarkId}
 use Rattle.units.specs.declared.MarkSpan.{MarkSpan}
 use Rattle.units.specs.declared.AsmReference.{AsmReference}
 use Rattle.units.specs.declared.BytesSpan.{BytesSpan}
-use Rattle.units.specs.declared.RefSize.the-variants.{S1, S2, S3, S4}
-use Rattle.units.specs.declared.SetSize.{SetSize}
-use Rattle.units.specs.declared.SetSize.the-variants.{Unsized, Sized}
-use Rattle.units.specs.declared.MarkReference.{MarkReference}
+use Rattle.units.specs.declared.RefSize.the-variants.{S4}
+use Rattle.units.specs.declared.SetSize.the-variants.{Sized}
 use Rattle.units.specs.declared.MarkReference.the-variants.{Direct, Delta}
 use Rattle.records.specs.Record.{maxMark, setSizeOf, referenceWords, readMark, span, readSpan, readRef, readDirect, readDelta, readSection}
 use Rattle.units.specs.Form.{sizeNumber}
 use Rattle.records.specs.declared.record.AsmSection.{AsmSection}
-use Rattle.records.specs.declared.record.AsmSection.the-variants.{Mark, Ops, Data, MarkRef}
+use Rattle.records.specs.declared.record.AsmSection.the-variants.{Mark, Ops, Data}
 use Rattle.records.specs.declared.record.SectionRead.{SectionRead}
 use Rattle.records.specs.declared.record.SectionRead.the-variants.{Read, Damaged}
 use Rattle.records.specs.declared.record.StoredSection.{StoredSection}

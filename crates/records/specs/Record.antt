@@ -2,16 +2,14 @@
 -- Ops and Data: start, end. Direct: number, then set size (0 unsized) plus 8 if pushed. Delta: start mark, end mark.
 -- Assumes nothing.
 use Prim.Native.Nat.{ℕ, _+_, _-_}
-use mathlib.Core.Bool.{Bool, true, false, cond, not, _&&_, _||_}
+use mathlib.Core.Bool.{Bool, true, false, cond, _&&_}
 use lib.Dec.{leb, ltb, eqb}
-use Rattle.units.specs.declared.RefSize.{RefSize}
 use Rattle.units.specs.declared.RefSize.the-variants.{S1, S2, S3, S4}
 use Rattle.units.specs.declared.SetSize.{SetSize}
 use Rattle.units.specs.declared.SetSize.the-variants.{Unsized, Sized}
 use Rattle.units.specs.declared.MarkReference.{MarkReference}
 use Rattle.units.specs.declared.MarkReference.the-variants.{Direct, Delta}
 use Rattle.units.specs.declared.AsmReference.{AsmReference}
-use Rattle.units.specs.declared.MarkSpan.{MarkSpan}
 use Rattle.units.specs.declared.BytesSpan.{BytesSpan}
 use Rattle.units.specs.Form.{sizeNumber, pushedNumber}
 use Rattle.records.specs.declared.record.AsmSection.{AsmSection}
@@ -64,11 +62,16 @@ readRef m s p = Read (MarkRef (record { «mark_ref» = m; «set_size» = setSize
 
 -- Direct: number, then set size plus 8 if pushed: 0 to 4, 8 to 12
 unfoldable pub readDirect : ℕ → ℕ → SectionRead
-readDirect a b = cond (ltb maxMark a) Damaged (cond (leb b 4) (readRef (Direct (record { 0 = a })) b false) (cond (leb 8 b && leb b 12) (readRef (Direct (record { 0 = a })) (b - 8) true) Damaged))
+readDirect a b =
+    cond (ltb maxMark a) Damaged
+    (cond (leb b 4) (readRef (Direct (record { 0 = a })) b false)
+    (cond (leb 8 b && leb b 12) (readRef (Direct (record { 0 = a })) (b - 8) true)
+    Damaged))
 
 -- Delta: start mark, end mark
 unfoldable pub readDelta : ℕ → Bool → ℕ → ℕ → SectionRead
-readDelta s p a b = cond (leb a maxMark && leb b maxMark) (readRef (Delta (record { start = record { 0 = a }; end = record { 0 = b } })) s p) Damaged
+readDelta s p a b =
+    cond (leb a maxMark && leb b maxMark) (readRef (Delta (record { start = record { 0 = a }; end = record { 0 = b } })) s p) Damaged
 
 -- a section read back from its three words
 unfoldable pub readSection : StoredSection → SectionRead

@@ -2,7 +2,7 @@
 -- parameter, w; in the code they are three. Assumes nothing.
 use Prim.Native.Nat.{ℕ, _+_, _*_}
 use mathlib.Core.List.{List}
-use mathlib.Core.Bool.{Bool, not, _&&_, _||_}
+use mathlib.Core.Bool.{Bool, not, _&&_}
 use lib.ListN.{length, getD}
 use lib.Dec.{leb}
 use Rattle.records.specs.declared.Assembler.{Assembler}

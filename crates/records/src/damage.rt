@@ -2,6 +2,7 @@
 use crate::Assembler;
 use crate::kind;
 use crate::record::StoredSection;
+use units::form;
 ghost use mathlib.Core.Path.{_≡_};
 ghost use mathlib.Core.Bool.{cond, _&&_};
 ghost use Prim.Native.Nat.{_+_, _*_, _≤_};
@@ -9,10 +10,8 @@ ghost use lib.Dec.{ltb, eqb};
 ghost use lib.ListN.{length};
 ghost use Rattle.records.specs.Store.{storeOf, wordsPerSection, wordsAt, badCounts};
 ghost use Rattle.records.specs.Record.{readSection, maxMark};
-ghost use Rattle.records.specs.Damage.{unreadable, isSpan, spansEnd, brokenSection, brokenLast, brokenReply, wholeSoundness, lastSoundness};
-
-// The greatest form of a direct reference: pushed, of size 4.
-const MAX_FORM: u32 = 12;
+ghost use Rattle.records.specs.Damage.{unreadable, isSpan, spansEnd, brokenSection, brokenLast, brokenReply};
+ghost use Rattle.records.specs.Damage.{wholeSoundness, lastSoundness};
 
 // Sound, or the section that number 6 reports.
 pub enum Soundness {
@@ -130,12 +129,13 @@ fn greatest_second(kind: u32) -> u32
         return 0;
     }
     if kind == kind::DIRECT {
-        return MAX_FORM;
+        return form::MAX;
     }
     Assembler::MAX_MARK
 }
 
-// A section that can't be read. This is `read_section` with nothing made of what is read: every call and every walk asks it. Bytes or not is its one branch: a branch predictor can't guess the kinds of a mixed store.
+// A section that can't be read. This is `read_section` with nothing made of what is read: every call and every walk asks it. Bytes or
+// not is its one branch: a branch predictor can't guess the kinds of a mixed store.
 fn is_unreadable(section: StoredSection) -> bool
     ensures { λ r. ⌜ r ≡ unreadable (readSection section) ⌝ }
 {
@@ -149,10 +149,11 @@ fn is_unreadable(section: StoredSection) -> bool
     (Assembler::MAX_MARK < first)
         | (limit < second)
         | (kind::LAST < kind)
-        | ((kind == kind::DIRECT) & (4 < second) & (second < 8))
+        | ((kind == kind::DIRECT) & (form::MAX_SIZE < second) & (second < form::PUSHED))
 }
 
-// A section that can't be read, starts elsewhere than at the previous end, or, the last with bytes, ends elsewhere than at the stored count.
+// A section that can't be read, starts elsewhere than at the previous end, or, the last with bytes, ends elsewhere than at the stored
+// count.
 fn broken_section(section: StoredSection, previous_end: u32, is_last: bool, stored: u32) -> bool
     ensures { λ r. ⌜ r ≡ brokenSection section «previous_end» «is_last» stored ⌝ }
 {

@@ -9,6 +9,9 @@ pub const DIRECT: u32 = 3;
 
 pub const PUSHED_DELTA: u32 = 4;
 
+// The last pushed delta: of size 4.
+pub const LAST_PUSHED_DELTA: u32 = 8;
+
 pub const RAW_DELTA: u32 = 9;
 
 // The last kind: a raw delta of size 4.

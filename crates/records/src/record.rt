@@ -11,7 +11,8 @@ use units::RefSize;
 use units::SetSize;
 use units::form;
 ghost use mathlib.Core.Path.{_≡_};
-ghost use Rattle.records.specs.Record.{readSection, readMark, readSpan, readDirect, readDelta, readRef, setSizeOf, referenceWords, formOf};
+ghost use Rattle.records.specs.Record.{readSection, readMark, readSpan, readDirect, readDelta, readRef, setSizeOf};
+ghost use Rattle.records.specs.Record.{referenceWords, formOf};
 
 // A section as it is read back.
 pub enum AsmSection {
@@ -46,7 +47,12 @@ pub fn read_section(words: StoredSection) -> SectionRead
         kind::OPS => read_ops(first, second),
         kind::DATA => read_data(first, second),
         kind::DIRECT => read_direct(first, second),
-        kind::PUSHED_DELTA..=8 => read_delta(kind - kind::PUSHED_DELTA, true, first, second),
+        kind::PUSHED_DELTA..=kind::LAST_PUSHED_DELTA => read_delta(
+            kind - kind::PUSHED_DELTA,
+            true,
+            first,
+            second,
+        ),
         kind::RAW_DELTA..=kind::LAST => read_delta(kind - kind::RAW_DELTA, false, first, second),
         _ => SectionRead::Damaged,
     }
@@ -96,8 +102,12 @@ fn read_direct(first: u32, second: u32) -> SectionRead
         return SectionRead::Damaged;
     }
     match second {
-        0..=4 => read_ref(MarkReference::Direct(MarkId(first)), second, false),
-        8..=12 => read_ref(MarkReference::Direct(MarkId(first)), second - 8, true),
+        0..=form::MAX_SIZE => read_ref(MarkReference::Direct(MarkId(first)), second, false),
+        form::PUSHED..=form::MAX => read_ref(
+            MarkReference::Direct(MarkId(first)),
+            second - form::PUSHED,
+            true,
+        ),
         _ => SectionRead::Damaged,
     }
 }

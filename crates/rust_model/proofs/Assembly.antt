@@ -9,10 +9,10 @@ use lib.Dec.{leb}
 use lib.ListN.{length}
 use borrow.Author.Tests.{leb-false, lt-leb, not-false}
 use Rattle.units.specs.Replies.{tooNarrow}
+use Rattle.units.specs.Reply.{refused, numbersReply}
 use Rattle.units.specs.declared.MarkReference.{MarkReference}
 use Rattle.units.specs.declared.MarkReference.the-variants.{Direct, Delta}
-use Rattle.units.specs.declared.reply.Refusal.{Refusal}
-use Rattle.units.specs.declared.reply.Refusal.the-variants.{TooNarrow, Unsettled, Backward}
+use Rattle.records.specs.declared.damage.Soundness.the-variants.{Sound}
 use Rattle.records.specs.Store.{Store, wordsPerSection}
 use Rattle.records.specs.Sections.{Section, mark, ops, bytes, reference, decode}
 use Rattle.slices.specs.Over.{over}
@@ -20,23 +20,24 @@ use Rattle.undamaged.specs.View.{Undamaged}
 use Rattle.undamaged.proofs.Soundness.{undamaged-iff}
 use Rattle.layout.specs.Passes.{entry, valueBy, Settling, settled, narrowAt, unsettled, settle}
 use Rattle.layout.specs.Conditions.{sectionAt, IsFirst, Never, placesSome, someMark, namesSome, refers, placed, shortAt, unplacedAt, apartAt, backwardBy, backwardAt}
-use Rattle.layout.specs.Answer.{laidOut, refused, answer, Says, Sound}
+use Rattle.layout.specs.Answer.{LayoutRefusal, laidOut, noLayout, layoutNumbers, Answer, answer, Says}
+use Rattle.layout.specs.Answer as layout
 use Rattle.layout.proofs.Answers.{settle-law, answer-law}
 use Rattle.layout.proofs.Least.{first-or-never}
-use Rattle.layout.proofs.Moves.{Still, or-false}
+use Rattle.layout.proofs.Moves.{Still}
+use Rattle.slices.proofs.Tests.{or-false}
 use Rattle.layout.proofs.Rule.{Sizes}
-use Rattle.layout.proofs.Today.{today}
+use Rattle.layout.proofs.WidthRule.{widthRule}
 use Rattle.layout.proofs.Walks.{All}
 use Rattle.layout.proofs.Premises.{all-at}
 use Rattle.layout.proofs.Apart.{placed-law}
 use Rattle.emission.specs.Emission.{referenceBytes, sectionBytes, inARow, codeOf}
 use Rattle.emission.proofs.Places.{settled-still}
-use Rattle.settling.specs.Settle.{settleAnswer}
+use Rattle.settling.specs.Settle.{Settlement, settlement, settling}
 use Rattle.assembler.specs.Assemble.{Outcome, written, refusal, assembly}
-use Rattle.assembler.specs.Assemble as reply
 use Rattle.assembler.proofs.Decoded.{stored-small}
 use Rattle.assembler.proofs.Laid.{sound-settles, laid}
-use Rattle.assembler.proofs.Outcomes.{outcome-refused, outcome-written, fits-law}
+use Rattle.assembler.proofs.Outcomes.{LaidBy, outcome-refused, outcome-written, fits-law}
 use Rattle.rust_model.specs.Run.{Run, done, panic, andThen, Build, index}
 use Rattle.rust_model.specs.Building.{Assembler}
 use Rattle.rust_model.specs.Sections.{AsmSection, Mark, Ops, Data, MarkRef, iterSections}
@@ -91,7 +92,7 @@ below-length n ss h m p =
 -- ---- by the Rust's table and by the lent one
 
 -- a settled table gives every reference room
-still-ready : (t : List ℕ) (ss : List Section) (s e : ℕ) → Still (Sizes today) ss s (entry t) e → All (Ready t) ss
+still-ready : (t : List ℕ) (ss : List Section) (s e : ℕ) → Still (Sizes widthRule) ss s (entry t) e → All (Ready t) ss
 still-ready t [] s e h = tt
 still-ready t (mark m ∷ ss) s e h = (tt, still-ready t ss s e (h .1))
 still-ready t (ops x ∷ ss) s e h = (tt, still-ready t ss (s + length x) e h)
@@ -159,16 +160,22 @@ module _
     small = subst (λ (l : List Section). need l < 4294967296) decoded (stored-small wordsPerSection st (undamaged-iff wordsPerSection st .0 undamaged))
 
     -- 7, 8 and 9 don't hold
-    sound : Sound lent ss
+    sound : layout.Sound lent ss
     sound = (given .inTable, given .marksPlaced, given .together)
 
     -- our settling answers for these sections
-    answers : settleAnswer wordsPerSection lent st ≡ answer lent ss
-    answers = sound-settles wordsPerSection lent st undamaged ∙ ap (answer lent) decoded
+    answers : settling wordsPerSection lent st ≡ settlement lent Sound (answer lent ss)
+    answers = sound-settles wordsPerSection lent st undamaged ∙ ap (λ (l : List Section). settlement lent Sound (answer lent l)) decoded
+
+    -- by an answer whose condition holds
+    answered : (x : Answer) → Says lent ss x → settling wordsPerSection lent st ≡ settlement lent Sound x
+    answered x s = answers ∙ ap (settlement lent Sound) (answer-law lent ss x .1 s)
 
     -- a refusal of ours
-    refuses : (r : Refusal) → Says lent ss (refused r) → ours ≡ refusal lent result r
-    refuses r s = outcome-refused wordsPerSection st lent result position r (answers ∙ answer-law lent ss (refused r) .1 s)
+    refuses : (r : LayoutRefusal) → Says lent ss (noLayout r) → ours .reply ≡ numbersReply (layoutNumbers r)
+    refuses r s =
+        ap (λ (o : Outcome). o .reply)
+        (outcome-refused wordsPerSection st lent result position _ _ _ (ap (λ (x : Settlement). x .reply) (answered (noLayout r) s)))
 
     -- the Rust after its offsets have converged
     converged : (c : Run Converged) → rustSettling (settle own ss) ≡ c → assemble build own a before ≡ andThen c (emission a before)
@@ -179,7 +186,7 @@ module _
 
     module _ (T t : List ℕ) (e e′ k k′ : ℕ) (byOwn : settle own ss ≡ settled T e k) (byLent : settle lent ss ≡ settled t e′ k′) (alike : Alike (placed ss) T t) where
       -- the Rust's table, and that each reference has room by it
-      own-still : (length T ≡ own) × Still (Sizes today) ss 0 (entry T) e
+      own-still : (length T ≡ own) × Still (Sizes widthRule) ss 0 (entry T) e
       own-still = settled-still own ss T e k (none-short own ss (given .marksPlaced) (given .grown)) byOwn
 
       in-map : EveryMap (length T) rs
@@ -202,8 +209,7 @@ module _
           (all-at (λ s. refers (backwardBy T) s ≡ false) ss (λ i l. backward-at i l ∙ never i l)) in
           let is : assemble build own a before ≡ done (assembled T (before ++ codeOf (entry T) ss)) =
           converged (done (ok T)) (ap rustSettling byOwn) ∙ ap (λ (x : Run (List ℕ)). andThen x (λ result′. done (assembled T result′))) rust in
-          let out : settleAnswer wordsPerSection lent st ≡ laidOut t e′ k′ =
-          answers ∙ answer-law lent ss (laidOut t e′ k′) .1 (sound, settle-law lent ss (settled t e′ k′) .0 byLent, never) in
+          let out : LaidBy wordsPerSection lent st t e′ k′ = answered (laidOut t e′ k′) (sound, settle-law lent ss (settled t e′ k′) .0 byLent, never) in
           let long : length code ≡ e′ = subst (λ (l : List Section). length (codeOf (entry t) l) ≡ e′) decoded (laid wordsPerSection lent st t e′ k′ out .codeLong) in
           let ours-is : position + length code ≤ length result → ours ≡ record { reply = written e′ k′; table = t; result = over result position (codeOf (entry t) (decode wordsPerSection st)) } =
           λ fits. outcome-written wordsPerSection st lent result position t e′ k′ out (fits-law (length result) position e′ .1 (omega arith)) in
@@ -223,8 +229,8 @@ module _
           let is : assemble build own a before ≡ panic =
           converged (done (ok T)) (ap rustSettling byOwn)
           ∙ ap (λ (x : Run (List ℕ)). andThen x (λ result′. done (assembled T result′))) (emit-panic (a .bytes) T rs before i in-map (first .0) (backward-at i (first .0) ∙ first .1)) in
-          let says : Says lent ss (refused (Backward i k′)) = (t, e′, sound, settle-law lent ss (settled t e′ k′) .0 byLent, first) in
-          subst (SameAssembly a before result position ours) (sym is) (i, k′, inr (ap (λ (o : Outcome). o .reply) (refuses (Backward i k′) says)))
+          let says : Says lent ss (noLayout (layout.backward i k′)) = (t, e′, sound, settle-law lent ss (settled t e′ k′) .0 byLent, first) in
+          subst (SameAssembly a before result position ours) (sym is) (i, k′, inr (refuses (layout.backward i k′) says))
 
       settled-same : SameAssembly a before result position ours (assemble build own a before)
       settled-same = go (first-or-never ss (backwardAt t ss))
@@ -245,10 +251,10 @@ module _
         go (narrowAt i k) p (settled t e′ k′) q s = absurd s
         go (narrowAt i k) p (narrowAt j k′) q s =
             subst (SameAssembly a before result position ours) (sym (converged (done (refHasTooSmallSetSize i)) (ap rustSettling p)))
-            (k′, ap (λ (o : Outcome). o .reply) (refuses (TooNarrow j k′) (sound, settle-law lent ss (narrowAt j k′) .0 q)) ∙ ap (λ (x : ℕ). reply.refused tooNarrow x k′) (sym (s .0)))
+            (k′, refuses (layout.tooNarrow j k′) (sound, settle-law lent ss (narrowAt j k′) .0 q) ∙ ap (λ (x : ℕ). refused tooNarrow x k′) (sym (s .0)))
         go (narrowAt i k) p unsettled q s = absurd s
         go unsettled p (settled t e′ k′) q s = absurd s
         go unsettled p (narrowAt j k′) q s = absurd s
         go unsettled p unsettled q s =
             subst (SameAssembly a before result position ours) (sym (converged panic (ap rustSettling p)))
-            (0, 1024, inl (ap (λ (o : Outcome). o .reply) (refuses Unsettled (sound, settle-law lent ss unsettled .0 q))))
+            (0, 1024, inl (refuses layout.unsettled (sound, settle-law lent ss unsettled .0 q)))

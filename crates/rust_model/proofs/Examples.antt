@@ -19,13 +19,14 @@ use Rattle.slices.specs.First.{leastFrom}
 use Rattle.calls.specs.Calls.{Call, push, clear, hasLargeMark, pushReference}
 use Rattle.slices.specs.Over.{over}
 use Rattle.units.specs.Replies.{tooNarrow}
+use Rattle.units.specs.Reply.{accepted, refused}
 use Rattle.layout.specs.Passes.{entry}
 use Rattle.layout.specs.Conditions.{placed, someBytes, shortAt, firstShort, unplacedAt, firstUnplaced, apartAt, firstApart}
 use Rattle.layout.proofs.Least.{never-law}
 use Rattle.opcodes.specs.Text.{asBytes}
 use Rattle.opcodes.specs.Names.{opName, lookup, opNames}
-use Rattle.assembler.specs.Assemble.{Outcome, written, refused, assembly}
-use Rattle.listing.specs.Answer.{listed, listingReply, listingBuffer}
+use Rattle.assembler.specs.Assemble.{Outcome, written, assembly}
+use Rattle.listing.specs.Answer.{listingReply, listingBuffer}
 use Rattle.hand.proofs.Lines.{placing, op, «data», ref, far}
 use Rattle.rust_model.specs.Run.{Run, done, panic, Build, release, addU32, subU32, checkedSub, index, indexMut, range, lenIdx, pushed}
 use Rattle.rust_model.specs.Building.{StoredAsmSection, Mark, Ops, Data, DirectMarkRef, Size2RawDeltaRef, Assembler, empty, leBytes, lastOf, lastMut, extendOps, newOps, opByte, extendData, newData, pushedData, call, calls}
@@ -251,12 +252,12 @@ line-12 result fits =
 
 -- and the listing
 pub line-12-text : (buffer : List ℕ) → length showText ≤ length buffer
-    → (listingReply wordsPerSection (built showBytes showWords showCalls) buffer ≡ listed (length showText))
+    → (listingReply wordsPerSection (built showBytes showWords showCalls) buffer ≡ accepted (length showText))
     × (listingBuffer wordsPerSection (built showBytes showWords showCalls) buffer ≡ showText ++ drop (length showText) buffer)
 line-12-text buffer fits =
     let same = demand-2 release showBytes showWords showCalls showStore (show-builds release) .listing in
     let is : same .text ≡ showText = done-inj (sym (same .written) ∙ rust-text-12) in (
-      subst (λ (t : List ℕ). length t ≤ length buffer → listingReply wordsPerSection (built showBytes showWords showCalls) buffer ≡ listed (length t)) is (same .reply buffer) fits,
+      subst (λ (t : List ℕ). length t ≤ length buffer → listingReply wordsPerSection (built showBytes showWords showCalls) buffer ≡ accepted (length t)) is (same .reply buffer) fits,
       subst (λ (t : List ℕ). length t ≤ length buffer → listingBuffer wordsPerSection (built showBytes showWords showCalls) buffer ≡ t ++ drop (length t) buffer) is (same .holds buffer) fits,
     )
 

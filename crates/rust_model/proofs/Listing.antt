@@ -10,7 +10,8 @@ use Rattle.records.specs.Sections.{Section, decode}
 use Rattle.undamaged.specs.View.{Undamaged}
 use Rattle.listing.specs.Listing.{listing}
 use Rattle.listing.specs.Listing as ours
-use Rattle.listing.specs.Answer.{listed, listingReply, listingBuffer}
+use Rattle.units.specs.Reply.{accepted}
+use Rattle.listing.specs.Answer.{listingReply, listingBuffer}
 use Rattle.rust_model.specs.Run.{done, range}
 use Rattle.rust_model.specs.Building.{Span, Assembler}
 use Rattle.rust_model.specs.Sections.{AsmSection, Mark, Ops, Data, MarkRef, iterSections}
@@ -46,7 +47,7 @@ write-same a h = text-same (a .bytes) (iterSections a) h
 -- an undamaged store that decodes to these sections
 module _ (st : Store) (ss : List Section) (whole : Undamaged wordsPerSection st) (same : decode wordsPerSection st ≡ ss) where
   -- on a buffer that is long enough: the answer, and what it holds
-  reply-text : (buffer : List ℕ) → length (listing ss) ≤ length buffer → listingReply wordsPerSection st buffer ≡ listed (length (listing ss))
+  reply-text : (buffer : List ℕ) → length (listing ss) ≤ length buffer → listingReply wordsPerSection st buffer ≡ accepted (length (listing ss))
   unfolding listingReply
   reply-text buffer h = rw (whole, same, le-ltb (length buffer) (length (listing ss)) h)
 

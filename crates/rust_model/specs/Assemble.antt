@@ -14,7 +14,8 @@ use Rattle.units.specs.declared.MarkReference.{MarkReference}
 use Rattle.units.specs.declared.MarkReference.the-variants.{Direct, Delta}
 use Rattle.rust_model.specs.Run.{Run, done, panic, andThen, Build, addU32, checkedSub, index, indexMut, range}
 use Rattle.rust_model.specs.Building.{Assembler, leBytes}
-use Rattle.rust_model.specs.Sections.{AsmSection, Mark, Ops, Data, MarkRef, iterSections, asU32, bytesToHold, minCompiledSize, compiledSize}
+use Rattle.rust_model.specs.Sections.{AsmSection, Mark, Ops, Data, MarkRef, iterSections}
+use Rattle.rust_model.specs.Sections.{asU32, bytesToHold, minCompiledSize, compiledSize}
 
 -- ---- the start table
 

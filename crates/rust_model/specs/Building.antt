@@ -12,7 +12,8 @@ use Rattle.units.specs.declared.SetSize.the-variants.{Unsized, Sized}
 use Rattle.units.specs.declared.MarkSpan.{MarkSpan}
 use Rattle.units.specs.declared.MarkReference.{MarkReference}
 use Rattle.units.specs.declared.MarkReference.the-variants.{Direct, Delta}
-use Rattle.calls.specs.Calls.{Push, pushMark, pushOpByte, pushSwap, pushDup, pushExchange, pushMinimalU256, pushMinimalU64, pushMinimalU32, pushData, pushReference, Call, push, clear}
+use Rattle.calls.specs.Calls.{Push, pushMark, pushOpByte, pushSwap, pushDup, pushExchange, pushData, pushReference}
+use Rattle.calls.specs.Calls.{pushMinimalU256, pushMinimalU64, pushMinimalU32, Call, push, clear}
 use Rattle.rust_model.specs.Run.{Run, done, panic, andThen, Build, debugAssert, lenIdx, pushed}
 
 -- `Span<AsmBytesIdx>`

@@ -10,6 +10,7 @@ use mathlib.Core.List.{List, [], _∷_, _++_, map}
 use lib.ListN.{length, drop}
 use lib.Seq.{slice}
 use Rattle.units.specs.Replies.{tooNarrow, unsettled, backward}
+use Rattle.units.specs.Reply.{accepted, refused}
 use Rattle.records.specs.Store.{Store, storeOf, emptyCounts, wordsPerSection, maxBytes, maxSections}
 use Rattle.records.specs.Sections.{Section, mark, ops, bytes, reference, decode}
 use Rattle.calls.specs.Calls.{Call, push, clear, hasLargeMark, runReplies, runAfter}
@@ -17,8 +18,8 @@ use Rattle.slices.specs.Over.{over}
 use Rattle.calls.specs.Answers.{EveryStored}
 use Rattle.layout.specs.Passes.{entry}
 use Rattle.layout.specs.Conditions.{Never, placed, shortAt, unplacedAt, apartAt}
-use Rattle.assembler.specs.Assemble.{Outcome, written, refused, assembly}
-use Rattle.listing.specs.Answer.{listed, listingReply, listingBuffer}
+use Rattle.assembler.specs.Assemble.{Outcome, written, assembly}
+use Rattle.listing.specs.Answer.{listingReply, listingBuffer}
 use Rattle.rust_model.specs.Run.{Run, done, panic, Build, index}
 use Rattle.rust_model.specs.Building.{Assembler, empty, call, calls}
 use Rattle.rust_model.specs.Sections.{AsmSection, Mark, Ops, Data, MarkRef, iterSections}
@@ -99,7 +100,8 @@ pub record SameCode (a : Assembler) (before table result′ : List ℕ) (result 
   -- where the lent result is long enough for it
   pub reply : position + length code ≤ length result → ours .reply ≡ written (length code) passes
   pub wrote : position + length code ≤ length result → ours .result ≡ over result position code
-  pub offsets : position + length code ≤ length result → (m : ℕ) → placed (sectionsOf a) m ≡ true → index table m ≡ done (entry (ours .table) m)
+  pub offsets : position + length code ≤ length result
+      → (m : ℕ) → placed (sectionsOf a) m ≡ true → index table m ≡ done (entry (ours .table) m)
 
 -- the section of a too small set size
 abbrev pub SameSection : ℕ → Outcome → Type 0
@@ -109,7 +111,8 @@ SameSection i ours = (passes : ℕ) × (ours .reply ≡ refused tooNarrow i pass
 abbrev pub SameAssembly : Assembler → List ℕ → List ℕ → ℕ → Outcome → Run Assembled → Type 0
 SameAssembly a before result position ours (done (assembled table result′)) = SameCode a before table result′ result position ours
 SameAssembly a before result position ours (done (tooSmallSetSize i)) = SameSection i ours
-SameAssembly a before result position ours panic = (i : ℕ) × (passes : ℕ) × ((ours .reply ≡ refused unsettled i passes) ⊎ (ours .reply ≡ refused backward i passes))
+SameAssembly a before result position ours panic =
+    (i : ℕ) × (passes : ℕ) × ((ours .reply ≡ refused unsettled i passes) ⊎ (ours .reply ≡ refused backward i passes))
 
 -- ---- listing
 
@@ -117,7 +120,7 @@ SameAssembly a before result position ours panic = (i : ℕ) × (passes : ℕ) �
 pub record SameListing (a : Assembler) (st : Store) : Type 0 where
   pub text : List ℕ
   pub written : writeAsm a ≡ done text
-  pub reply : (buffer : List ℕ) → length text ≤ length buffer → listingReply wordsPerSection st buffer ≡ listed (length text)
+  pub reply : (buffer : List ℕ) → length text ≤ length buffer → listingReply wordsPerSection st buffer ≡ accepted (length text)
   pub holds : (buffer : List ℕ) → length text ≤ length buffer → listingBuffer wordsPerSection st buffer ≡ text ++ drop (length text) buffer
 
 -- ---- the demand
@@ -127,5 +130,6 @@ pub record Demand2 (build : Build) (bs words : List ℕ) (cs : List Call) (a : A
   pub store : SameStore bs words cs a
   -- by every length of the Rust's table, whatever its result held before
   pub assembly : (lent own : ℕ) → Assembles a lent own → (before result : List ℕ) (position : ℕ)
-      → SameAssembly a before result position (assembly wordsPerSection (built bs words cs) lent result position) (assemble build own a before)
+      → SameAssembly a before result position
+      (assembly wordsPerSection (built bs words cs) lent result position) (assemble build own a before)
   pub listing : SameListing a (built bs words cs)

@@ -33,7 +33,8 @@ abbrev pub fromStored : StoredAsmSection → AsmSection
 fromStored (stored.Mark id) = Mark id
 fromStored (stored.Ops span) = Ops span
 fromStored (stored.Data span) = Data span
-fromStored (stored.DirectMarkRef id size pushed) = MarkRef (record { «mark_ref» = Direct (record { 0 = id }); «set_size» = size; pushed = pushed })
+fromStored (stored.DirectMarkRef id size pushed) =
+    MarkRef (record { «mark_ref» = Direct (record { 0 = id }); «set_size» = size; pushed = pushed })
 fromStored (stored.UnsizedPushedDeltaRef span) = deltaRef span true Unsized
 fromStored (stored.Size1PushedDeltaRef span) = deltaRef span true (Sized S1)
 fromStored (stored.Size2PushedDeltaRef span) = deltaRef span true (Sized S2)

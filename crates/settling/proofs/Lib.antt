@@ -1,7 +1,6 @@
-pub mod Compose
-pub mod Places
-pub mod Searches
+pub mod SectionWords
 pub mod Sections
 pub mod Turns
-pub mod Words
-pub mod Starts
+pub mod FirstPlacings
+pub mod StartTable
+pub mod SettleAnswers

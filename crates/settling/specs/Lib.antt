@@ -1,3 +1,2 @@
-pub mod Pieces
 pub mod Settle
-pub mod Words
+pub mod SectionWalk

@@ -1,7 +1,8 @@
-// Document 01, module 3: the tests for 7, 8 and 9, and the settling. The lent table holds what the tests need to remember; it is 0 again when they refuse.
+// Document 01, module 3: the tests for 7, 8 and 9, and the settling. The lent table holds what the tests need to remember; it is 0
+// again when they refuse.
 mod passes;
-mod piece;
 mod search;
+mod section;
 mod table;
 
 use crate::passes::run_passes;
@@ -18,10 +19,9 @@ use units::Refusal;
 ghost use mathlib.Core.Path.{_≡_};
 ghost use lib.ListN.{length, replicate};
 ghost use Rattle.records.specs.Store.{storeOf, wordsPerSection};
-ghost use Rattle.layout.specs.Passes.{start, settle};
-ghost use Rattle.layout.specs.Answer.{answer, settlingAnswer, answerReply, answerTable};
-ghost use Rattle.settling.specs.Pieces.{sectionsOf, Whole, Fitting};
-ghost use Rattle.settling.specs.Words.{lessOne};
+ghost use Rattle.layout.specs.Passes.{start};
+ghost use Rattle.layout.specs.Answer.{answer, answerReply, answerTable};
+ghost use Rattle.settling.specs.SectionWalk.{sectionsOf, Whole, Fitting, lessOne, settledAnswer};
 ghost use Rattle.settling.specs.Settle.{settling, settledReply};
 
 // Settled: the code's length in all and the passes made; or a refusal, 6 to 12, with the table all 0.
@@ -30,10 +30,15 @@ pub enum Settled {
     Refused(Refusal),
 }
 
-// Settling over a store and a lent table, whatever they hold. Refusals: 6 damaged, 7 short table, 8 unplaced, 9 placed apart, 10 too narrow, 11 unsettled, 12 backward.
+// Settling over a store and a lent table, whatever they hold. Refusals: 6 damaged, 7 short table, 8 unplaced, 9 placed apart,
+// 10 too narrow, 11 unsettled, 12 backward.
 pub fn settle(store: Assembler, bytes: &[u8], words: &[u32], table: &mut [u32]) -> Settled
-    ensures reply { λ r. ⌜ settledReply r ≡ settling wordsPerSection (length (now (table .entry))) (storeOf store (now (bytes .entry)) (now (words .entry))) .reply ⌝ }
-    ensures table { λ _. ⌜ now (table .exit) ≡ settling wordsPerSection (length (now (table .entry))) (storeOf store (now (bytes .entry)) (now (words .entry))) .table ⌝ }
+    ensures reply { λ r.
+        ⌜ settledReply r
+        ≡ settling wordsPerSection (length (now (table .entry))) (storeOf store (now (bytes .entry)) (now (words .entry))) .reply ⌝ }
+    ensures table { λ _.
+        ⌜ now (table .exit)
+        ≡ settling wordsPerSection (length (now (table .entry))) (storeOf store (now (bytes .entry)) (now (words .entry))) .table ⌝ }
 {
     clear(table); // on a 6 too
     match check_store(store, bytes, words) {
@@ -46,8 +51,13 @@ pub fn settle(store: Assembler, bytes: &[u8], words: &[u32], table: &mut [u32]) 
 fn settle_whole(store: Assembler, bytes: &[u8], words: &[u32], table: &mut [u32]) -> Settled
     requires { ⌜ Whole store (now bytes) (now words) ⌝ }
     requires { ⌜ now table ≡ replicate (length (now table)) 0 ⌝ }
-    ensures reply { λ r. ⌜ settledReply r ≡ answerReply (answer (length (now (table .entry))) (sectionsOf store (now (bytes .entry)) (now (words .entry)))) ⌝ }
-    ensures table { λ _. ⌜ now (table .exit) ≡ answerTable (length (now (table .entry))) (answer (length (now (table .entry))) (sectionsOf store (now (bytes .entry)) (now (words .entry)))) ⌝ }
+    ensures reply { λ r.
+        ⌜ settledReply r
+        ≡ answerReply (answer (length (now (table .entry))) (sectionsOf store (now (bytes .entry)) (now (words .entry)))) ⌝ }
+    ensures table { λ _.
+        ⌜ now (table .exit)
+        ≡ answerTable (length (now (table .entry)))
+        (answer (length (now (table .entry))) (sectionsOf store (now (bytes .entry)) (now (words .entry)))) ⌝ }
 {
     let short = first_short(store, bytes, words, table.len());
     if short < store.sections {
@@ -70,8 +80,13 @@ fn settle_whole(store: Assembler, bytes: &[u8], words: &[u32], table: &mut [u32]
 fn settle_placed(store: Assembler, bytes: &[u8], words: &[u32], table: &mut [u32]) -> Settled
     requires { ⌜ Fitting store (now bytes) (now words) (length (now table)) ⌝ }
     requires { ⌜ lessOne (now table) ≡ start (length (now table)) (sectionsOf store (now bytes) (now words)) ⌝ }
-    ensures reply { λ r. ⌜ settledReply r ≡ answerReply (settlingAnswer (sectionsOf store (now (bytes .entry)) (now (words .entry))) (settle (length (now (table .entry))) (sectionsOf store (now (bytes .entry)) (now (words .entry))))) ⌝ }
-    ensures table { λ _. ⌜ now (table .exit) ≡ answerTable (length (now (table .entry))) (settlingAnswer (sectionsOf store (now (bytes .entry)) (now (words .entry))) (settle (length (now (table .entry))) (sectionsOf store (now (bytes .entry)) (now (words .entry))))) ⌝ }
+    ensures reply { λ r.
+        ⌜ settledReply r
+        ≡ answerReply (settledAnswer (length (now (table .entry))) (sectionsOf store (now (bytes .entry)) (now (words .entry)))) ⌝ }
+    ensures table { λ _.
+        ⌜ now (table .exit)
+        ≡ answerTable (length (now (table .entry)))
+        (settledAnswer (length (now (table .entry))) (sectionsOf store (now (bytes .entry)) (now (words .entry)))) ⌝ }
 {
     less_one(table);
     let reply = run_passes(store, bytes, words, table);

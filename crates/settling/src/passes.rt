@@ -1,16 +1,17 @@
 // The passes: a walk over the sections in place, again until no mark moves, at most 1,024 times.
 use crate::Settled;
-use crate::piece::section_words;
-use crate::piece::size_of;
+use crate::section::section_words;
+use crate::section::size_of;
 use crate::table::clear;
 use records::Assembler;
+use records::kind;
 use units::Refusal;
 use units::SizeFor;
 ghost use mathlib.Core.Path.{_≡_};
 ghost use lib.ListN.{length};
 ghost use Rattle.units.specs.Replies.{maxPasses};
 ghost use Rattle.layout.specs.Passes.{passes};
-ghost use Rattle.settling.specs.Pieces.{sectionsOf, Fitting, passesReply, passesTable};
+ghost use Rattle.settling.specs.SectionWalk.{sectionsOf, Fitting, passesReply, passesTable};
 
 const MAX_PASSES: u32 = 1024;
 
@@ -22,8 +23,13 @@ pub(crate) fn run_passes(
     table: &mut [u32],
 ) -> Settled
     requires { ⌜ Fitting store (now bytes) (now words) (length (now table)) ⌝ }
-    ensures reply { λ r. ⌜ r ≡ passesReply (passes maxPasses 1 (sectionsOf store (now (bytes .entry)) (now (words .entry))) (now (table .entry))) ⌝ }
-    ensures table { λ _. ⌜ now (table .exit) ≡ passesTable (length (now (table .entry))) (passes maxPasses 1 (sectionsOf store (now (bytes .entry)) (now (words .entry))) (now (table .entry))) ⌝ }
+    ensures reply { λ r.
+        ⌜ r
+        ≡ passesReply (passes maxPasses 1 (sectionsOf store (now (bytes .entry)) (now (words .entry))) (now (table .entry))) ⌝ }
+    ensures table { λ _.
+        ⌜ now (table .exit)
+        ≡ passesTable (length (now (table .entry)))
+        (passes maxPasses 1 (sectionsOf store (now (bytes .entry)) (now (words .entry))) (now (table .entry))) ⌝ }
 {
     let mut k: u32 = 1;
     let mut refusal = Refusal::Unsettled;
@@ -33,7 +39,7 @@ pub(crate) fn run_passes(
         let mut moved = false;
         while i < store.sections {
             let section = section_words(words, i as usize);
-            if section.kind == 0 {
+            if section.kind == kind::MARK {
                 let at = section.first as usize;
                 let was = table[at];
                 moved = moved | (was != sum);

@@ -1,23 +1,22 @@
 // The searches for 7, 8 and 12: each is the first section with a property, the count of sections if there is none.
-use crate::piece::section_words;
+use crate::section::section_words;
 use records::Assembler;
 use records::StoredSection;
+use records::kind;
 ghost use mathlib.Core.Path.{_≡_};
-ghost use mathlib.Core.Bool.{false};
 ghost use lib.ListN.{length};
 ghost use Rattle.layout.specs.Conditions.{firstShort, firstUnplaced, firstBackward};
-ghost use Rattle.settling.specs.Pieces.{sectionsOf, Whole, Fitting, firstSums, shortPiece, unplacedPiece, allPlaced, backwardPiece};
-ghost use Rattle.settling.specs.Words.{pieceOfWords, Readable};
+ghost use Rattle.settling.specs.SectionWalk.{sectionsOf, Whole, Fitting, shortWords, MarksIn, unplacedWords, backwardWords};
+ghost use Rattle.settling.specs.SectionWalk.{firstSums, allPlaced};
 
 // 7, for one section. Without branches on the kind: a branch predictor can't guess the kinds of a mixed store.
 fn is_short(section: StoredSection, limit: usize) -> bool
-    requires { ⌜ Readable section ⌝ }
-    ensures { λ r. ⌜ r ≡ shortPiece limit (pieceOfWords section) ⌝ }
+    ensures { λ r. ⌜ r ≡ shortWords limit section ⌝ }
 {
     let kind = section.kind;
     let first = limit <= (section.first as usize);
     let second = limit <= (section.second as usize);
-    (first & ((kind == 0) | (2 < kind))) | (second & (3 < kind))
+    (first & ((kind == kind::MARK) | (kind::DATA < kind))) | (second & (kind::DIRECT < kind))
 }
 
 // The first section with a mark at or past the table's length.
@@ -37,16 +36,16 @@ pub(crate) fn first_short(store: Assembler, bytes: &[u8], words: &[u32], limit: 
 
 // 8, for one section, by the table of first placings.
 fn is_unplaced(section: StoredSection, table: &[u32]) -> bool
-    requires { ⌜ Readable section × (shortPiece (length (now table)) (pieceOfWords section) ≡ false) ⌝ }
-    ensures { λ r. ⌜ r ≡ unplacedPiece (now (table .entry)) (pieceOfWords section) ⌝ }
+    requires { ⌜ MarksIn (length (now table)) section ⌝ }
+    ensures { λ r. ⌜ r ≡ unplacedWords (now (table .entry)) section ⌝ }
 {
-    if section.kind < 3 {
+    if section.kind < kind::DIRECT {
         return false;
     }
     if table[section.first as usize] == 0 {
         return true;
     }
-    if section.kind == 3 {
+    if section.kind == kind::DIRECT {
         return false;
     }
     table[section.second as usize] == 0
@@ -87,10 +86,10 @@ pub(crate) fn first_unplaced(store: Assembler, bytes: &[u8], words: &[u32], tabl
 
 // 12, for one section, by the settled table.
 fn is_backward(section: StoredSection, table: &[u32]) -> bool
-    requires { ⌜ Readable section × (shortPiece (length (now table)) (pieceOfWords section) ≡ false) ⌝ }
-    ensures { λ r. ⌜ r ≡ backwardPiece (now (table .entry)) (pieceOfWords section) ⌝ }
+    requires { ⌜ MarksIn (length (now table)) section ⌝ }
+    ensures { λ r. ⌜ r ≡ backwardWords (now (table .entry)) section ⌝ }
 {
-    if section.kind < 4 {
+    if section.kind <= kind::DIRECT {
         return false;
     }
     table[section.second as usize] < table[section.first as usize]

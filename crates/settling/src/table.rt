@@ -1,7 +1,8 @@
 // The lent table: all 0, the table of first placings that 8 and 9 read, and the start table.
-use crate::piece::least_size;
-use crate::piece::section_words;
+use crate::section::least_size;
+use crate::section::section_words;
 use records::Assembler;
+use records::kind;
 ghost use mathlib.Core.Path.{_≡_};
 ghost use mathlib.Core.Bool.{cond, not};
 ghost use Prim.Native.Nat.{_+_, _-_, _≤_, _<_};
@@ -9,8 +10,7 @@ ghost use lib.Dec.{eqb, ltb};
 ghost use lib.ListN.{length, replicate};
 ghost use Rattle.layout.specs.Passes.{entry, start};
 ghost use Rattle.layout.specs.Conditions.{firstApart};
-ghost use Rattle.settling.specs.Pieces.{sectionsOf, Fitting, firstSums};
-ghost use Rattle.settling.specs.Words.{placeMark, lessOne};
+ghost use Rattle.settling.specs.SectionWalk.{sectionsOf, Fitting, placeMark, firstSums, lessOne};
 
 // Every entry to 0.
 pub fn clear(table: &mut [u32])
@@ -55,15 +55,20 @@ pub(crate) fn place(store: Assembler, bytes: &[u8], words: &[u32], table: &mut [
     requires { ⌜ Fitting store (now bytes) (now words) (length (now table)) ⌝ }
     requires { ⌜ now table ≡ replicate (length (now table)) 0 ⌝ }
     ensures apart { λ r. ⌜ r ≡ firstApart (sectionsOf store (now (bytes .entry)) (now (words .entry))) ⌝ }
-    ensures table { λ _. ⌜ now (table .exit) ≡ firstSums (length (now (table .entry))) (sectionsOf store (now (bytes .entry)) (now (words .entry))) ⌝ }
-    ensures started { λ r. ⌜ (store .sections ≤ r → lessOne (now (table .exit)) ≡ start (length (now (table .entry))) (sectionsOf store (now (bytes .entry)) (now (words .entry)))) ⌝ }
+    ensures table { λ _.
+        ⌜ now (table .exit)
+        ≡ firstSums (length (now (table .entry))) (sectionsOf store (now (bytes .entry)) (now (words .entry))) ⌝ }
+    ensures started { λ r.
+        ⌜ (store .sections ≤ r
+        → lessOne (now (table .exit))
+        ≡ start (length (now (table .entry))) (sectionsOf store (now (bytes .entry)) (now (words .entry)))) ⌝ }
 {
     let mut i: u32 = 0;
     let mut sum: u32 = 0;
     let mut apart = store.sections;
     while i < store.sections {
         let section = section_words(words, i as usize);
-        if section.kind == 0 {
+        if section.kind == kind::MARK {
             let is_apart = place_mark(table, section.first as usize, sum);
             apart = earlier(apart, i, is_apart);
         } else {

@@ -1,8 +1,8 @@
--- The law of `leastFrom`: it is the least number that passes the test, and the only one. Assumes nothing.
-use Prim.Native.Nat.{ℕ, zero, suc, _<_}
+-- The law of `leastFrom`: it is the least number that passes the test, and the only one; and of a search that comes to it. Assumes nothing.
+use Prim.Native.Nat.{ℕ, zero, suc, _+_, _≤_, _<_}
 use native.Mathlib.Nat.{le-refl, eq-or-lt-of-le}
 use native.Mathlib.Omega.{arith}
-use mathlib.Core.Path.{_≡_, refl, subst}
+use mathlib.Core.Path.{_≡_, refl, sym, subst}
 use mathlib.Core.Bool.{Bool, true, false, cond}
 use mathlib.Core.Logic.{⊎-elim}
 use Rattle.slices.specs.First.{leastFrom, IsLeast}
@@ -40,3 +40,27 @@ not-below test k i m l a b h = clash (test m) (a .holds (omega arith)) (b .none 
 -- two least numbers are the same
 pub least-same : (test : ℕ → Bool) (k i m l : ℕ) → IsLeast test k i m → IsLeast test k i l → m ≡ l
 least-same test k i m l a b = omega (arith, not-below test k i m l a b, not-below test k i l m b a)
+
+-- ---- a search from 0 on, which has come to i
+
+-- the test holds of none before i
+abbrev pub NoneBefore : (ℕ → Bool) → ℕ → Type 0
+NoneBefore test i = (j : ℕ) → j < i → test j ≡ false
+
+pub search-start : (test : ℕ → Bool) → NoneBefore test 0
+search-start test j l = absurd (omega arith)
+
+-- nor of i
+pub search-next : (test : ℕ → Bool) (i : ℕ) → NoneBefore test i → test i ≡ false → NoneBefore test (i + 1)
+search-next test i h e j l = ⊎-elim (λ (d : j ≡ i). subst (λ (x : ℕ). test x ≡ false) (sym d) e) (λ (d : j < i). h j d) (eq-or-lt-of-le (omega arith))
+
+-- it holds of i: the first of n
+pub search-hit : (test : ℕ → Bool) (n i : ℕ) → NoneBefore test i → i < n → test i ≡ true → i ≡ leastFrom test n 0
+search-hit test n i h l e =
+    least-same test n 0 i (leastFrom test n 0) (record { above = omega arith; within = omega arith; none = λ j a b. h j b; holds = λ _. e }) (leastFrom-least test n 0)
+
+-- none of the n is left
+pub search-done : (test : ℕ → Bool) (n i : ℕ) → NoneBefore test i → i ≤ n → n ≤ i → i ≡ leastFrom test n 0
+search-done test n i h l d =
+    least-same test n 0 i (leastFrom test n 0) (record { above = omega arith; within = omega arith; none = λ j a b. h j b; holds = λ k. absurd (omega arith) })
+    (leastFrom-least test n 0)

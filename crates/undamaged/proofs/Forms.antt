@@ -1,11 +1,10 @@
 -- The form of a reference, from the words that it is read from. Assumes nothing.
-use Prim.Native.Nat.{ℕ, _+_, _-_, _≤_, _<_}
+use Prim.Native.Nat.{ℕ, _+_, _-_}
 use native.Mathlib.Omega.{arith}
 use mathlib.Core.Path.{_≡_, ap, _∙_}
-use mathlib.Core.Bool.{Bool, true, false}
+use mathlib.Core.Bool.{true, false}
 use borrow.Author.Tests.{lt-ltb, le-ltb, eq-eqb, ne-eqb}
 use Rattle.units.specs.Form.{sizeNumber, formNumber}
-use Rattle.units.specs.declared.SetSize.{SetSize}
 use Rattle.units.specs.declared.AsmReference.{AsmReference}
 use Rattle.units.proofs.Forms.{sizeNumber-le}
 use Rattle.records.specs.Record.{directKind, pushedDeltaKind, rawDeltaKind, readSection, formOf}

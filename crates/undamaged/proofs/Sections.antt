@@ -2,7 +2,7 @@
 use Prim.Native.Nat.{ℕ, zero, suc, _+_, _≤_, _<_}
 use native.Mathlib.Nat.{add-zero, add-suc, suc-add, le-refl, le-trans, le-of-eq, eq-or-lt-of-le}
 use native.Mathlib.Omega.{arith}
-use mathlib.Core.Path.{_≡_, sym, ap, _∙_, subst}
+use mathlib.Core.Path.{_≡_, refl, sym, ap, _∙_, subst}
 use mathlib.Core.Bool.{true, false, true≢false}
 use mathlib.Mathlib.Data.Bool.Basic.{dichotomy}
 use mathlib.Core.List.{List, [], _∷_, _++_}
@@ -13,6 +13,7 @@ use Rattle.records.specs.Store.{Store, sectionWords}
 use Rattle.records.specs.Damage.{unreadable, isSpan, endBefore}
 use Rattle.records.specs.Sections.{Section, decodeAt, decodeFrom}
 use Rattle.records.specs.declared.record.SectionRead.{SectionRead}
+use Rattle.records.specs.declared.record.SectionRead.the-variants.{Read, Damaged}
 use Rattle.undamaged.specs.View.{Facts}
 use Rattle.undamaged.specs.Section.{ReadIn}
 use Rattle.slices.proofs.Tests.{cond-true, cond-false}
@@ -63,6 +64,11 @@ read-in n (is-ops e l) u h = (l, h (ap isSpan e))
 read-in n (is-data e l) u h = (l, h (ap isSpan e))
 read-in n (is-direct e m s p f) u h = m
 read-in n (is-delta l m m′ s p f) u h = (m, m′)
+
+-- and the other way: a section of n bytes can be read
+pub can-read : (n : ℕ) (v : SectionRead) → ReadIn n v → unreadable v ≡ false
+can-read n (Read s) h = refl
+can-read n Damaged h = absurd h
 
 -- so every section of an undamaged store is one of its stored bytes
 pub section-in : (w : ℕ) (st : Store) (i : ℕ) → Facts w st → i < st .sections → ReadIn (st .storedBytes) (readSection (sectionWords w st i))

@@ -2,7 +2,7 @@
 use Prim.Native.Nat.{ℕ, _+_, _%_, _/_, _≤_}
 use native.Mathlib.Omega.{arith}
 use native.Mathlib.Nat.{add-zero}
-use mathlib.Core.Path.{_≡_, refl, ap}
+use mathlib.Core.Path.{_≡_, refl}
 use mathlib.Core.Bool.{Bool, true, false, cond}
 use lib.Dec.{eqb, ltb}
 use borrow.Author.Tests.{eqb-true, ne-eqb}
@@ -14,7 +14,6 @@ use Rattle.units.specs.declared.RefSize.the-variants.{S1, S2, S3, S4}
 use Rattle.units.specs.declared.SetSize.{SetSize}
 use Rattle.units.specs.declared.SetSize.the-variants.{Unsized, Sized}
 use Rattle.units.specs.declared.AsmReference.{AsmReference}
-use Rattle.units.specs.declared.SizeFor.{SizeFor}
 use Rattle.units.specs.declared.SizeFor.the-variants.{Bytes, TooNarrow}
 
 -- a set size is 1 to 4
@@ -108,3 +107,23 @@ module _ (r : AsmReference) where
         go Unsized e false d true z = rw (e, d, eqb-true v 0 z)
         go Unsized e false d false z = rw (e, d, z, add-zero)
         go (Sized s) e p d b z = rw (e, not-zero s)
+
+-- ---- what `sizeFor` tells
+
+-- bytes
+pub size-found : (r : AsmReference) (v n : ℕ) → sizeFor r v ≡ Bytes n → (tooNarrow r v ≡ false) × (n ≡ size r v)
+unfolding sizeFor
+size-found r v n e = go (tooNarrow r v) refl e
+  where
+    go : (q : Bool) → tooNarrow r v ≡ q → cond q TooNarrow (Bytes (size r v)) ≡ Bytes n → (tooNarrow r v ≡ false) × (n ≡ size r v)
+    go true h k = let z : _≡_ {A = ℕ} 0 1 = cc in absurd (omega arith)
+    go false h k = let s : n ≡ size r v = cc in (h, s)
+
+-- or too narrow
+pub narrow-found : (r : AsmReference) (v : ℕ) → sizeFor r v ≡ TooNarrow → tooNarrow r v ≡ true
+unfolding sizeFor
+narrow-found r v e = go (tooNarrow r v) refl e
+  where
+    go : (q : Bool) → tooNarrow r v ≡ q → cond q TooNarrow (Bytes (size r v)) ≡ TooNarrow → tooNarrow r v ≡ true
+    go true h k = h
+    go false h k = let z : _≡_ {A = ℕ} 0 1 = cc in absurd (omega arith)

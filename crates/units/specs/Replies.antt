@@ -3,7 +3,9 @@
 use Prim.Native.Nat.{ℕ}
 use Rattle.units.specs.declared.reply.RefusalNumbers.{RefusalNumbers}
 use Rattle.units.specs.declared.reply.Refusal.{Refusal}
-use Rattle.units.specs.declared.reply.Refusal.the-variants.{BadDepth, BadWord, LargeMark, BytesFull, SectionsFull, Damaged, ShortTable, Unplaced, PlacedApart, TooNarrow, Unsettled, Backward, ResultFull, ListingFull}
+use Rattle.units.specs.declared.reply.Refusal.the-variants.{BadDepth, BadWord, LargeMark, BytesFull, SectionsFull}
+use Rattle.units.specs.declared.reply.Refusal.the-variants.{Damaged, ShortTable, Unplaced, PlacedApart, TooNarrow}
+use Rattle.units.specs.declared.reply.Refusal.the-variants.{Unsettled, Backward, ResultFull, ListingFull}
 
 -- the numbers of the table of replies
 abbrev pub badDepth : ℕ

@@ -5,8 +5,14 @@ use crate::bytes_to_hold;
 ghost use mathlib.Core.Path.{_≡_};
 ghost use Rattle.units.specs.Form.{leastByForm, countByForm, pushZeroByForm, sizeByForm};
 
+// The greatest set size: the forms of raw references are 0 to 4.
+pub const MAX_SIZE: u32 = 4;
+
 // What a pushed reference's form has above its set size.
 pub const PUSHED: u32 = 8;
+
+// The greatest form.
+pub const MAX: u32 = 12;
 
 // The least size.
 pub fn least_size(form: u32) -> u32

@@ -5,12 +5,30 @@ use mathlib.Core.Path.{sym, _∙_, ap}
 use Prim.Native.Nat.{ℕ}
 use lib.ListN.{length, replicate}
 use denote.Ref.{now}
-use Rattle.records.specs.Store.{storeOf, wordsPerSection}
-use Rattle.settling.specs.Settle.{settledReply}
+use Rattle.records.specs.Store.{Store, storeOf, wordsPerSection}
+use Rattle.assembler.proofs.Outcomes.{LaidBy}
 use Rattle.assembler.proofs.Laid.{laid}
 use Rattle.assembler.proofs.Assembles.{kept-refused, laid-table, kept-full, code-fits, kept-written}
 use Rattle.assembler.proofs.assemble.Statement.{statement}
 use Rattle.assembler.proofs.assemble.Tie as tie
+
+abbrev start-of : tie.After-settle → tie.Start
+start-of c = c .before .before .before .before .before .before
+
+abbrev store-of : tie.Start → Store
+store-of s = storeOf (s .args .store) (now (s .args .bytes)) (now (s .args .words))
+
+abbrev settled-of : tie.After-settled2 → tie.After-settle
+settled-of c = c .before .before .before .before
+
+-- what the settling answered, where it laid the sections out
+laid-out : (c : tie.After-settled2)
+    → let s = start-of (settled-of c) in
+    LaidBy wordsPerSection (length (now (s .args .table))) (store-of s) (settled-of c .settle .last .1 .1 .1 .0) (c .settled2 .given .0 .0) (c .settled2 .given .0 .1 .0)
+laid-out c =
+    let settled = settled-of c in
+    let s = start-of settled in
+    laid-table wordsPerSection (store-of s) _ (now (s .args .result)) (s .args .position) _ (settled .settle .ensures .0) (settled .settle .ensures .1) _ _ (c .settled2 .given .1)
 
 settle-requires : tie.Need-settle-requires
 settle-requires c κs = search needs
@@ -29,33 +47,28 @@ clear-requires c κs = search needs
 
 same-length : tie.Need-same-length
 same-length c =
-    let settled = c .before .before .before .before .before .before .before .before .before .before .before in
-    c .before .before .clear .kept .0 ∙ settled .settle .kept .1 .1 .1 .0
+    let cleared = c .before .before in
+    let full = cleared .before .before in
+    let settled = settled-of (full .before .before .before) in
+    cleared .clear .kept .0 ∙ settled .settle .kept .1 .1 .1 .0
 
 returns : tie.Need-returns
 returns c =
     let cleared = c .before .before in
     let full = cleared .before .before in
     let told = full .before .before .before in
-    let settled = told .before .before .before .before in
-    let a = settled .before .before .before .before .before .before .args in
-    let st = storeOf (a .store) (now (a .bytes)) (now (a .words)) in
-    let n = length (now (a .table)) in
-    let is = laid-table wordsPerSection st n (now (a .result)) (a .position) _ _ _ (ap settledReply (sym (told .settled2 .given .1)) ∙ settled .settle .ensures .0) (settled .settle .ensures .1) in
+    let settled = settled-of told in
+    let s = start-of settled in
     let same = cleared .clear .ensures ∙ ap (λ (k : ℕ). replicate k 0) (settled .settle .kept .1 .1 .1 .0) in
-    kept-full wordsPerSection st n (now (a .result)) (a .position) _ _ _ is _ (sym (full .before .is-full .ensures) ∙ full .if1 .taken) same
+    kept-full wordsPerSection (store-of s) _ (now (s .args .result)) (s .args .position) _ _ _ (laid-out told) _ (sym (full .before .is-full .ensures) ∙ full .if1 .taken) same
 
 write-code-requires : tie.Need-write-code-requires
 write-code-requires c κs =
-    let full = c .before .before in
-    let told = full .before .before .before in
-    let settled = told .before .before .before .before in
-    let a = settled .before .before .before .before .before .before .args in
-    let st = storeOf (a .store) (now (a .bytes)) (now (a .words)) in
-    let n = length (now (a .table)) in
-    let is = laid-table wordsPerSection st n (now (a .result)) (a .position) _ _ _ (ap settledReply (sym (told .settled2 .given .1)) ∙ settled .settle .ensures .0) (settled .settle .ensures .1) in
-    let all = laid wordsPerSection n st _ _ _ is in
-    (all .facts .wordsFit, (all .writable, code-fits wordsPerSection st n (now (a .result)) (a .position) _ _ _ is (sym (full .before .is-full .ensures) ∙ full .if1 .left)))
+    let fits = c .before .before in
+    let told = fits .before .before .before in
+    let s = start-of (settled-of told) in
+    let all = laid wordsPerSection _ (store-of s) _ _ _ (laid-out told) in
+    (all .facts .wordsFit, (all .writable, code-fits wordsPerSection (store-of s) _ (now (s .args .result)) (s .args .position) _ _ _ (laid-out told) (sym (fits .before .is-full .ensures) ∙ fits .if1 .left)))
 
 same-length-2 : tie.Need-same-length-2
 same-length-2 c = c .before .before .before .before .before .settle .kept .1 .1 .1 .0
@@ -64,28 +77,24 @@ returns-2 : tie.Need-returns-2
 returns-2 c =
     let told = c .before in
     let settled = told .before .before .before .before in
-    let a = settled .before .before .before .before .before .before .args in
-    let st = storeOf (a .store) (now (a .bytes)) (now (a .words)) in
-    let n = length (now (a .table)) in
-    kept-refused wordsPerSection st n (now (a .result)) (a .position) (told .settled .given .0 .0) _ (ap settledReply (sym (told .settled .given .1)) ∙ settled .settle .ensures .0) (settled .settle .ensures .1)
+    let s = start-of settled in
+    kept-refused wordsPerSection (store-of s) _ (now (s .args .result)) (s .args .position) _ (settled .settle .ensures .0) (settled .settle .ensures .1) _ (told .settled .given .1)
 
 same-length-3 : tie.Need-same-length-3
-same-length-3 c = c .before .before .before .before .before .before .before .before .before .before .before .before .settle .kept .1 .1 .1 .0
+same-length-3 c =
+    let fits = c .before .before .before .before .before in
+    settled-of (fits .before .before .before) .settle .kept .1 .1 .1 .0
 
 same-length-4 : tie.Need-same-length-4
 same-length-4 c = c .before .before .write-code .kept .1 .1 .1 .1 .0
 
 returns-3 : tie.Need-returns-3
 returns-3 c =
-    let done = c .before .before in
-    let full = done .before .before .before in
-    let told = full .before .before .before in
-    let settled = told .before .before .before .before in
-    let a = settled .before .before .before .before .before .before .args in
-    let st = storeOf (a .store) (now (a .bytes)) (now (a .words)) in
-    let n = length (now (a .table)) in
-    let is = laid-table wordsPerSection st n (now (a .result)) (a .position) _ _ _ (ap settledReply (sym (told .settled2 .given .1)) ∙ settled .settle .ensures .0) (settled .settle .ensures .1) in
-    kept-written wordsPerSection st n (now (a .result)) (a .position) _ _ _ is (sym (full .before .is-full .ensures) ∙ full .if1 .left) _ (done .write-code .ensures)
+    let written = c .before .before in
+    let fits = written .before .before .before in
+    let told = fits .before .before .before in
+    let s = start-of (settled-of told) in
+    kept-written wordsPerSection (store-of s) _ (now (s .args .result)) (s .args .position) _ _ _ (laid-out told) (sym (fits .before .is-full .ensures) ∙ fits .if1 .left) _ (written .write-code .ensures)
 
 pub assemble-spec : {M : Type 1} → statement M
 assemble-spec =

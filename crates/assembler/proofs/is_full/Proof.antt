@@ -1,6 +1,6 @@
 -- `is_full` is the definition: the position first, then the length against what is left.
 -- Assumes nothing.
-use Rattle.assembler.proofs.Writes.{full-position, full-length}
+use Rattle.assembler.proofs.Outcomes.{full-position, full-length}
 use Rattle.assembler.proofs.is_full.Statement.{statement}
 use Rattle.assembler.proofs.is_full.Tie as tie
 

@@ -22,7 +22,10 @@ returns : tie.Need-returns
 returns c = ap immediateBytes (sym (c .enum-told .given .1) ∙ c .before .before .push-size .ensures)
 
 returns-2 : tie.Need-returns-2
-returns-2 c = ap immediateBytes (sym (c .before .n .given .1) ∙ c .before .before .before .push-size .ensures)
+returns-2 c =
+    let told = c .before in
+    let asked = told .before .before in
+    ap immediateBytes (sym (told .n .given .1) ∙ asked .push-size .ensures)
 
 pub push-size-spec : {M : Type 1} → statement M
 push-size-spec = tie.close (tie.spec push-size-requires enum-told enum-known-n cast-result returns returns-2)

@@ -2,7 +2,7 @@
 -- Assumes nothing.
 use borrow.Author.Needs.{needs}
 use mathlib.Core.Path.{sym, _∙_}
-use Rattle.listing.proofs.Answers.{answers-damaged}
+use Rattle.listing.proofs.ListingAnswers.{answers-damaged}
 use Rattle.listing.proofs.write_asm.Statement.{statement}
 use Rattle.listing.proofs.write_asm.Tie as tie
 

@@ -2,7 +2,7 @@
 -- Assumes nothing.
 use borrow.Author.Needs.{needs}
 use Rattle.listing.proofs.Every.{listable}
-use Rattle.listing.proofs.Answers.{answers-full, answers-text}
+use Rattle.listing.proofs.ListingAnswers.{answers-full, answers-text}
 use Rattle.listing.proofs.write_sound.Statement.{statement}
 use Rattle.listing.proofs.write_sound.Tie as tie
 

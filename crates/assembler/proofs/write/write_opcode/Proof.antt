@@ -26,8 +26,7 @@ same-length c = search needs
 returns : tie.Need-returns
 returns c =
     let a = c .before .args in
-    let all = opcode-pushed (a .pushed) (a .count) (a .at) (now (a .result)) (c .if1 .taken) (c .before .pre .1) in
-    (all .1, all .2)
+    opcode-pushed (a .pushed) (a .count) (a .at) (now (a .result)) (c .if1 .taken) (c .before .pre .1) .1
 
 returns-2 : tie.Need-returns-2
 returns-2 c =

@@ -64,7 +64,10 @@ returns c =
     let s = a .args .span in
     let done : turn .i ≡ s .end .0 = omega arith in
     let none : slice (turn .i) (s .end .0) (now (a .args .bytes)) ≡ [] = ap (λ (k : ℕ). slice k (s .end .0) (now (a .args .bytes))) done ∙ slice-empty (s .end .0) (now (a .args .bytes)) in
-    (omega (arith, turn .inv .4, length-slice (s .start .0) (s .end .0) (now (a .args .bytes)) (a .pre .0 .1)), sym (over-nothing (turn .result) (turn .next)) ∙ ap (over (turn .result) (turn .next)) (sym none) ∙ turn .inv .5)
+    record {
+      count = omega (arith, turn .inv .4, length-slice (s .start .0) (s .end .0) (now (a .args .bytes)) (a .pre .0 .1));
+      result = sym (over-nothing (turn .result) (turn .next)) ∙ ap (over (turn .result) (turn .next)) (sym none) ∙ turn .inv .5;
+    }
 
 pub write-span-spec : {M : Type 1} → statement M
 write-span-spec =

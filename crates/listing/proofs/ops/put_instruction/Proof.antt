@@ -43,7 +43,7 @@ returns c =
     let written = ended .before .before .before .before .before in
     let named = written .before .before .before .before in
     let spaced = named .before .before .before .before in
-    join {y = asBytes "\n"} (join (join (spaced .put .ensures) (named .put-name .ensures)) (written .put-operand .ensures)) (ended .put2 .ensures)
+    join (join (join (spaced .put .ensures) (named .put-name .ensures)) (written .put-operand .ensures)) (ended .put2 .ensures)
 
 pub put-instruction-spec : {M : Type 1} → statement M
 put-instruction-spec = tie.close (tie.spec shared-slice-read-opcode slice-aggregate-put put-requires put-name-requires add-put-operand put-operand-requires slice-aggregate-put-2 put-requires-2 same-length returns)

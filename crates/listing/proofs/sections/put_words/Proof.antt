@@ -13,10 +13,14 @@ use Rattle.listing.proofs.SectionLines.{text-mark, text-ops, text-data,
 use Rattle.listing.proofs.sections.put_words.Statement.{statement}
 use Rattle.listing.proofs.sections.put_words.Tie as tie
 
+-- where the kind word is first tested
+abbrev at-kind : tie.After-struct-known → tie.Start
+at-kind c = c .before .before .before
+
 put-mark-line-requires : tie.Need-put-mark-line-requires
 put-mark-line-requires c κs =
     let is-mark = c .before in
-    let start = is-mark .before .before .before .before in
+    let start = at-kind (is-mark .before) in
     room-is _ (text-mark _ _ (start .pre .0) (is-mark .if1 .taken)) (start .pre .1)
 
 same-length : tie.Need-same-length
@@ -26,13 +30,13 @@ returns : tie.Need-returns
 returns c =
     let put = c .before .before in
     let is-mark = put .before .before in
-    let start = is-mark .before .before .before .before in
+    let start = at-kind (is-mark .before) in
     put-is (sym (text-mark _ _ (start .pre .0) (is-mark .if1 .taken))) (put .put-mark-line .ensures)
 
 put-ops-lines-requires : tie.Need-put-ops-lines-requires
 put-ops-lines-requires c κs =
     let is-ops = c .before in
-    let start = is-ops .before .before .before .before .before .before in
+    let start = at-kind (is-ops .before .before .before) in
     let text = text-ops _ _ (start .pre .0) (is-ops .if2 .taken) in
     (text .0, room-is _ (text .1) (start .pre .1))
 
@@ -43,13 +47,13 @@ returns-2 : tie.Need-returns-2
 returns-2 c =
     let put = c .before .before in
     let is-ops = put .before .before in
-    let start = is-ops .before .before .before .before .before .before in
+    let start = at-kind (is-ops .before .before .before) in
     put-is (sym (text-ops _ _ (start .pre .0) (is-ops .if2 .taken) .1)) (put .put-ops-lines .ensures)
 
 put-data-line-requires : tie.Need-put-data-line-requires
 put-data-line-requires c κs =
     let is-data = c .before in
-    let start = is-data .before .before .before .before .before .before .before .before in
+    let start = at-kind (is-data .before .before .before .before .before) in
     let text = text-data _ _ (start .pre .0) (is-data .if3 .taken) in
     (text .0, room-is _ (text .1) (start .pre .1))
 
@@ -60,17 +64,17 @@ returns-3 : tie.Need-returns-3
 returns-3 c =
     let put = c .before .before in
     let is-data = put .before .before in
-    let start = is-data .before .before .before .before .before .before .before .before in
+    let start = at-kind (is-data .before .before .before .before .before) in
     put-is (sym (text-data _ _ (start .pre .0) (is-data .if3 .taken) .1)) (put .put-data-line .ensures)
 
--- a kind that is none of these is a reference's
 abbrev start-of : tie.Else3 → tie.Start
-start-of c = c .before .before .before .before .before .before .before .before
+start-of c = at-kind (c .before .before .before .before .before)
 
 -- the place of the code where the words were read
 abbrev read-of : tie.After-section → tie.After-read-section
 read-of c = c .before .before .before .before .before
 
+-- a kind that is none of these is a reference's
 others : (c : tie.Else3) → directKind ≤ start-of c .args .section .kind
 others c = omega (arith, c .if3 .left, c .before .before .if2 .left, c .before .before .before .before .if1 .left)
 

@@ -1,8 +1,6 @@
 -- A digit below ten, and one from ten on.
 -- Assumes nothing.
-use mathlib.Core.Path.{_≡_}
 use native.Mathlib.Omega.{arith}
-use Prim.Native.Nat.{ℕ, _+_, _-_}
 use borrow.Author.Tests.{lt-ltb, le-ltb}
 use Rattle.listing.specs.Listing.{hexDigit}
 use borrow.Author.Needs.{needs}

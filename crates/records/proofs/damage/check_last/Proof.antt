@@ -1,13 +1,9 @@
 -- `check_last` is the definition: counts, then bytes without sections, then the last section.
 -- Assumes nothing.
 use borrow.Author.Needs.{needs}
-use mathlib.Core.Path.{_≡_, sym, _∙_}
+use mathlib.Core.Path.{sym, _∙_}
 use native.Mathlib.Omega.{arith}
 use mathlib.Core.Path.{ap}
-use mathlib.Core.Bool.{Bool, _&&_}
-use Prim.Native.Nat.{ℕ, _*_, _≤_}
-use lib.Dec.{ltb, eqb}
-use lib.ListN.{length}
 use denote.Ref.{now}
 use Rattle.records.specs.declared.record.StoredSection.{StoredSection}
 use Rattle.records.specs.Damage.{brokenLast}

@@ -1,14 +1,13 @@
 -- The invariant: no section before i is broken, and end is the end of the last Ops or Data section before i. The measure is what is left.
 -- Assumes nothing.
 use borrow.Author.Needs.{needs}
-use mathlib.Core.Path.{_≡_, sym, _∙_}
+use mathlib.Core.Path.{sym, _∙_}
 use native.Mathlib.Omega.{arith}
-use Prim.Native.Nat.{ℕ, _+_, _-_, _*_, _≤_}
+use Prim.Native.Nat.{_-_}
 use mathlib.Core.Path.{ap}
 use mathlib.Core.Bool.{cond}
-use lib.ListN.{length}
 use denote.Ref.{now}
-use Rattle.records.specs.Damage.{isSpan, spansEnd}
+use Rattle.records.specs.Damage.{isSpan}
 use Rattle.records.specs.declared.record.StoredSection.{StoredSection}
 use Rattle.records.proofs.Damages.{Walked, walk-start, walk-test, walk-next, walk-broken, walk-done}
 use Rattle.records.specs.Store.{storeOf, wordsPerSection}

@@ -1,13 +1,11 @@
 -- `check_store` is the definition: counts, then bytes that nothing holds, then the sections.
 -- Assumes nothing.
 use borrow.Author.Needs.{needs}
-use mathlib.Core.Path.{_≡_, sym, _∙_}
-use native.Mathlib.Omega.{arith}
+use mathlib.Core.Path.{sym, _∙_}
 use mathlib.Core.Path.{ap}
-use mathlib.Core.Bool.{Bool, _&&_}
-use Prim.Native.Nat.{ℕ, _*_, _≤_}
+use mathlib.Core.Bool.{_&&_}
+use Prim.Native.Nat.{ℕ}
 use lib.Dec.{ltb, eqb}
-use lib.ListN.{length}
 use denote.Ref.{now}
 use Rattle.records.proofs.Damages.{good-words, whole-counts, whole-unheld, whole-sections}
 use Rattle.records.specs.Store.{storeOf, wordsPerSection}

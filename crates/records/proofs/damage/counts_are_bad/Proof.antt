@@ -1,7 +1,6 @@
 -- `counts_are_bad` is the definition's four tests, one after the other.
 -- Assumes nothing.
 use borrow.Author.Needs.{needs}
-use mathlib.Core.Path.{_≡_}
 use native.Mathlib.Omega.{arith}
 use Rattle.records.proofs.Damages.{bytes-past-slice, bytes-past-limit, sections-past-limit, words-past-slice}
 use Rattle.records.proofs.damage.counts_are_bad.Statement.{statement}

@@ -1,6 +1,5 @@
 -- `is_span` is the definition's two tests, one after the other.
 -- Assumes nothing.
-use mathlib.Core.Path.{_≡_}
 use borrow.Author.Tests.{eq-eqb, ne-eqb}
 use Rattle.records.proofs.damage.is_span.Statement.{statement}
 use Rattle.records.proofs.damage.is_span.Tie as tie

@@ -1,8 +1,7 @@
 -- `next_end` is the definition's test.
 -- Assumes nothing.
 use borrow.Author.Needs.{needs}
-use mathlib.Core.Path.{_≡_, sym, _∙_}
-use mathlib.Core.Bool.{Bool, cond}
+use mathlib.Core.Path.{sym, _∙_}
 use Rattle.records.proofs.damage.next_end.Statement.{statement}
 use Rattle.records.proofs.damage.next_end.Tie as tie
 

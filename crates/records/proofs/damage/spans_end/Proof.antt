@@ -3,10 +3,9 @@
 use borrow.Author.Needs.{needs}
 use mathlib.Core.Path.{_≡_, sym, _∙_}
 use native.Mathlib.Omega.{arith}
-use Prim.Native.Nat.{ℕ, _+_, _-_, _*_, _≤_, _<_}
+use Prim.Native.Nat.{_+_, _-_, _≤_, _<_}
 use mathlib.Core.Path.{refl, ap}
 use native.Mathlib.Nat.{sub-zero}
-use lib.ListN.{length}
 use denote.Ref.{now}
 use Rattle.records.specs.Damage.{isSpan, spansEnd}
 use Rattle.records.specs.declared.record.StoredSection.{StoredSection}

@@ -1,7 +1,6 @@
 -- `read_ref` makes the reference that was read.
 -- Assumes nothing.
 use borrow.Author.Needs.{needs}
-use mathlib.Core.Path.{_≡_}
 use Rattle.records.proofs.record.read_ref.Statement.{statement}
 use Rattle.records.proofs.record.read_ref.Tie as tie
 

@@ -1,28 +1,24 @@
 -- The outer invariant: the passes that are left, from the table as it is, come to the whole settling. The inner one: what remains of the walk comes
 -- to the whole pass from the table that the pass started with, and its sum is in bounds. The measures are what is left. Assumes nothing.
-use borrow.Author.Needs.{needs}
-use mathlib.Core.Path.{_≡_, refl, sym, ap, _∙_, subst}
+use Prim.Native.Nat.{ℕ, _+_, _-_, _≤_, _<_}
 use native.Mathlib.Omega.{arith}
-use Prim.Native.Nat.{ℕ, _+_, _-_, _≤_}
+use mathlib.Core.Path.{_≡_, refl, sym, ap, _∙_, subst}
+use mathlib.Core.List.{List}
 use mathlib.Core.Logic.{⊎-elim}
-use lib.ListN.{length, length-set}
-use denote.Ref.{now}
-use Rattle.records.specs.Store.{storeOf, wordsPerSection}
-use mathlib.Core.Bool.{false}
-use lib.ListN.{replicate, length-replicate}
-use Rattle.settling.specs.declared.Settled.the-variants.{Refused}
+use lib.ListN.{length, drop, replicate, length-set, length-replicate}
+use borrow.Author.Needs.{needs}
 use borrow.Author.Tests.{not-true, not-false}
+use denote.Ref.{now}
 use Rattle.units.specs.Replies.{maxPasses}
 use Rattle.units.specs.declared.reply.Refusal.{Refusal}
-use Rattle.layout.specs.Passes.{walkFrom, pass, passes}
-use lib.ListN.{drop}
-use Rattle.settling.specs.Pieces.{sectionsOf, passesReply, passesTable}
-use Rattle.settling.proofs.Sections.{decode-count, words-fit, turn-words, readable-words, Room, room-mark, room-small}
-use Rattle.settling.proofs.Searches.{in-table, mark-in}
-use Rattle.settling.proofs.Turns.{Left, pass-start, pass-next, turn-mark, turn-other, turn-left, room-other, settles-narrow, settles-calm, settles-on, settles-out, reply-settled, reply-narrow, reply-out}
-use Rattle.settling.specs.Words.{pieceOfWords}
-use Rattle.settling.specs.Pieces.{shortPiece}
-use Rattle.settling.proofs.Words.{kind-of, as-mark, not-mark}
+use Rattle.records.specs.Store.{storeOf, wordsPerSection}
+use Rattle.records.specs.Sections.{Section}
+use Rattle.layout.specs.Passes.{Settling, walkFrom, pass, passes}
+use Rattle.settling.specs.SectionWalk.{sectionsOf, MarksIn, passesReply, passesTable}
+use Rattle.settling.specs.declared.Settled.the-variants.{Refused}
+use Rattle.settling.proofs.SectionWords.{as-mark, not-mark, ordered, size-words}
+use Rattle.settling.proofs.Sections.{decode-count, words-fit, Turn, turn, turn-in, Room, room-mark, room-size, room-small}
+use Rattle.settling.proofs.Turns.{Left, pass-start, pass-next, pass-at, pass-past, pass-left, settles-narrow, settles-calm, settles-on, settles-out}
 use Rattle.settling.proofs.passes.run_passes.Statement.{statement}
 use Rattle.settling.proofs.passes.run_passes.Tie as tie
 
@@ -42,6 +38,48 @@ Inv-passes store bytes words table₀ k₀ refusal₀ table k refusal =
 abbrev μ-passes : tie.MeasureT-passes
 μ-passes store bytes words table₀ k₀ refusal₀ table k refusal = 1025 - k
 
+-- ---- the entry, the sections and what the passes come to, seen from the outer loop
+
+abbrev entry : tie.At-passes Inv-loop μ-loop Inv-passes μ-passes → tie.Start Inv-loop μ-loop Inv-passes μ-passes
+entry c = c .before .before .before .before
+
+abbrev sections : tie.At-passes Inv-loop μ-loop Inv-passes μ-passes → List Section
+sections c = sectionsOf (entry c .args .store) (now (entry c .args .bytes)) (now (entry c .args .words))
+
+abbrev comes-to : tie.At-passes Inv-loop μ-loop Inv-passes μ-passes → Settling
+comes-to c = passes maxPasses 1 (sections c) (now (entry c .args .table))
+
+-- so many sections
+count : (c : tie.At-passes Inv-loop μ-loop Inv-passes μ-passes) → length (sections c) ≡ entry c .args .store .sections
+count c = decode-count wordsPerSection (storeOf (entry c .args .store) (now (entry c .args .bytes)) (now (entry c .args .words)))
+
+-- ---- a turn of the walk
+
+abbrev outer : tie.At-loop Inv-loop μ-loop Inv-passes μ-passes → tie.At-passes Inv-loop μ-loop Inv-passes μ-passes
+outer c = c .before .before
+
+-- the table has its length
+long : (c : tie.At-loop Inv-loop μ-loop Inv-passes μ-passes) → length (c .loop .table) ≡ length (now (entry (outer c) .args .table))
+long c = c .loop .inv .2 ∙ outer c .passes .inv .2
+
+-- where the section's words were read
+abbrev at-loop : tie.After-section-words Inv-loop μ-loop Inv-passes μ-passes → tie.At-loop Inv-loop μ-loop Inv-passes μ-passes
+at-loop c = c .before .before .before
+
+here : (c : tie.After-section-words Inv-loop μ-loop Inv-passes μ-passes) → Turn (sections (outer (at-loop c))) (at-loop c .loop .i) (c .section-words .result)
+here c = turn _ _ _ (entry (outer (at-loop c)) .pre .whole) _ _ (c .before .if1 .taken) (c .section-words .ensures)
+
+-- its marks are in the table
+marks-here : (c : tie.After-section-words Inv-loop μ-loop Inv-passes μ-passes) → MarksIn (length (at-loop c .loop .table)) (c .section-words .result)
+marks-here c =
+    subst (λ (n : ℕ). MarksIn n (c .section-words .result)) (sym (long (at-loop c))) (turn-in _ _ _ _ (entry (outer (at-loop c)) .pre) _ _ (here c))
+
+-- where the walk is at its end
+at-end : (c : tie.Else1 Inv-loop μ-loop Inv-passes μ-passes) → length (sections (outer (c .before .before))) ≤ c .before .before .loop .i
+at-end c = omega (arith, count (outer (c .before .before)), c .if1 .left)
+
+-- ---- the needs
+
 passes-holds : tie.Need-passes-holds Inv-loop μ-loop Inv-passes μ-passes
 passes-holds c = (omega arith, refl, refl, refl)
 
@@ -53,20 +91,8 @@ cast-section-words c = omega arith
 
 section-words-requires : tie.Need-section-words-requires Inv-loop μ-loop Inv-passes μ-passes
 section-words-requires c κs =
-    let turn = c .before .before in
-    let outer = turn .before .before in
-    let start = outer .before .before .before .before in
-    let a = start .args in
-    let ss = sectionsOf (a .store) (now (a .bytes)) (now (a .words)) in
-    let n = length (now (a .table)) in
-    let k = outer .passes .k in
-    let from = outer .passes .table in
-    let i = turn .loop .i in
-    let sum = turn .loop .sum in
-    let moved = turn .loop .moved in
-    let table = turn .loop .table in
-    let inv = turn .loop .inv in
-    words-fit (a .store) (now (a .bytes)) (now (a .words)) (start .pre .whole) i (c .if1 .taken)
+    let turning = c .before .before in
+    words-fit _ _ _ (entry (outer turning) .pre .whole) (turning .loop .i) (c .if1 .taken)
 
 cast-at : tie.Need-cast-at Inv-loop μ-loop Inv-passes μ-passes
 cast-at c = search needs
@@ -74,77 +100,24 @@ cast-at c = search needs
 mul-was : tie.Need-mul-was Inv-loop μ-loop Inv-passes μ-passes
 mul-was c = search needs
 
+-- the mark's entry is in the table
+entry-in : (c : tie.Then2 Inv-loop μ-loop Inv-passes μ-passes) → c .before .before .section-words .result .first < length (at-loop (c .before .before) .loop .table)
+entry-in c = marks-here (c .before .before) .placed (c .if2 .taken)
+
 slice-read-was : tie.Need-slice-read-was Inv-loop μ-loop Inv-passes μ-passes
-slice-read-was c =
-    let turn = c .before .before .before .before .before .before .before in
-    let outer = turn .before .before in
-    let start = outer .before .before .before .before in
-    let a = start .args in
-    let ss = sectionsOf (a .store) (now (a .bytes)) (now (a .words)) in
-    let n = length (now (a .table)) in
-    let k = outer .passes .k in
-    let from = outer .passes .table in
-    let i = turn .loop .i in
-    let sum = turn .loop .sum in
-    let moved = turn .loop .moved in
-    let table = turn .loop .table in
-    let inv = turn .loop .inv in
-    let below = c .before .before .before .before .before .if1 .taken in
-    let read = c .before .before .before .before .section-words .ensures in
-    let t = turn-words (a .store) (now (a .bytes)) (now (a .words)) (start .pre .whole) i _ below read in
-    let readable = readable-words (a .store) (now (a .bytes)) (now (a .words)) (start .pre .whole) i _ below read in
-    let kind = kind-of _ readable in
-    let short = in-table n ss i _ (start .pre .inTable) t in
-    omega (arith, mark-in n _ _ short (as-mark kind (c .before .before .if2 .taken)), inv .2, outer .passes .inv .2)
+slice-read-was c = entry-in (c .before .before)
 
 mul-table : tie.Need-mul-table Inv-loop μ-loop Inv-passes μ-passes
 mul-table c = search needs
 
 slice-write-table : tie.Need-slice-write-table Inv-loop μ-loop Inv-passes μ-passes
-slice-write-table c =
-    let turn = c .before .before .before .before .before .before .before in
-    let outer = turn .before .before in
-    let start = outer .before .before .before .before in
-    let a = start .args in
-    let ss = sectionsOf (a .store) (now (a .bytes)) (now (a .words)) in
-    let n = length (now (a .table)) in
-    let k = outer .passes .k in
-    let from = outer .passes .table in
-    let i = turn .loop .i in
-    let sum = turn .loop .sum in
-    let moved = turn .loop .moved in
-    let table = turn .loop .table in
-    let inv = turn .loop .inv in
-    let below = c .before .before .before .before .before .if1 .taken in
-    let read = c .before .before .before .before .section-words .ensures in
-    let t = turn-words (a .store) (now (a .bytes)) (now (a .words)) (start .pre .whole) i _ below read in
-    let readable = readable-words (a .store) (now (a .bytes)) (now (a .words)) (start .pre .whole) i _ below read in
-    let kind = kind-of _ readable in
-    let short = in-table n ss i _ (start .pre .inTable) t in
-    omega (arith, mark-in n _ _ short (as-mark kind (c .before .before .if2 .taken)), inv .2, outer .passes .inv .2)
+slice-write-table c = entry-in (c .before .before)
 
 size-of-requires : tie.Need-size-of-requires Inv-loop μ-loop Inv-passes μ-passes
 size-of-requires c κs =
-    let turn = c .before .before .before .before .before .before in
-    let outer = turn .before .before in
-    let start = outer .before .before .before .before in
-    let a = start .args in
-    let ss = sectionsOf (a .store) (now (a .bytes)) (now (a .words)) in
-    let n = length (now (a .table)) in
-    let k = outer .passes .k in
-    let from = outer .passes .table in
-    let i = turn .loop .i in
-    let sum = turn .loop .sum in
-    let moved = turn .loop .moved in
-    let table = turn .loop .table in
-    let inv = turn .loop .inv in
-    let below = c .before .before .before .before .if1 .taken in
-    let read = c .before .before .before .section-words .ensures in
-    let t = turn-words (a .store) (now (a .bytes)) (now (a .words)) (start .pre .whole) i _ below read in
-    let readable = readable-words (a .store) (now (a .bytes)) (now (a .words)) (start .pre .whole) i _ below read in
-    let kind = kind-of _ readable in
-    let short = in-table n ss i _ (start .pre .inTable) t in
-    (readable, c .before .if2 .left, subst (λ (x : ℕ). shortPiece x (pieceOfWords (c .before .before .before .section-words .result)) ≡ false) (sym (inv .2 ∙ outer .passes .inv .2)) short)
+    let at-if2 = c .before in
+    let read = at-if2 .before .before in
+    (marks-here read, ordered (here read .words) (at-if2 .if2 .left))
 
 enum-known-n : tie.Need-enum-known-n Inv-loop μ-loop Inv-passes μ-passes
 enum-known-n c = search needs
@@ -154,27 +127,13 @@ enum-told c = search needs
 
 add-sum : tie.Need-add-sum Inv-loop μ-loop Inv-passes μ-passes
 add-sum c =
-    let turn = c .before .before .before .before .before .before .before .before .before .before in
-    let outer = turn .before .before in
-    let start = outer .before .before .before .before in
-    let a = start .args in
-    let ss = sectionsOf (a .store) (now (a .bytes)) (now (a .words)) in
-    let n = length (now (a .table)) in
-    let k = outer .passes .k in
-    let from = outer .passes .table in
-    let i = turn .loop .i in
-    let sum = turn .loop .sum in
-    let moved = turn .loop .moved in
-    let table = turn .loop .table in
-    let inv = turn .loop .inv in
-    let below = c .before .before .before .before .before .before .before .before .if1 .taken in
-    let read = c .before .before .before .before .before .before .before .section-words .ensures in
-    let t = turn-words (a .store) (now (a .bytes)) (now (a .words)) (start .pre .whole) i _ below read in
-    let readable = readable-words (a .store) (now (a .bytes)) (now (a .words)) (start .pre .whole) i _ below read in
-    let kind = kind-of _ readable in
-    let short = in-table n ss i _ (start .pre .inTable) t in
-    let l : i + 1 ≤ a .store .sections = omega arith in
-    omega (arith, room-small (a .store) (now (a .bytes)) (now (a .words)) (start .pre .whole) (i + 1) _ (room-other ss i _ t (not-mark kind (c .before .before .before .before .before .if2 .left)) sum _ table _ (c .before .before .before .size-of .ensures) (c .before .n .given .1) (inv .1)) l)
+    let sized = c .before .before .before in
+    let at-if2 = sized .before .before in
+    let read = at-if2 .before .before in
+    let turning = at-loop read in
+    let size = sym (size-words (turning .loop .table) (here read .words) (at-if2 .if2 .left)) ∙ sym (sized .size-of .ensures) ∙ c .before .n .given .1 in
+    let next : turning .loop .i + 1 ≤ entry (outer turning) .args .store .sections = omega (arith, read .before .if1 .taken) in
+    omega (arith, room-small _ _ _ (entry (outer turning) .pre .whole) (turning .loop .i + 1) _ (room-size (sections (outer turning)) _ _ (here read .below) (turning .loop .inv .1) _ _ size) next)
 
 add-i : tie.Need-add-i Inv-loop μ-loop Inv-passes μ-passes
 add-i c = omega arith
@@ -184,68 +143,44 @@ loop-less c = omega arith
 
 loop-again : tie.Need-loop-again Inv-loop μ-loop Inv-passes μ-passes
 loop-again c =
-    let turn = c .before .before .before .before .before in
-    let outer = turn .before .before in
-    let start = outer .before .before .before .before in
-    let a = start .args in
-    let ss = sectionsOf (a .store) (now (a .bytes)) (now (a .words)) in
-    let n = length (now (a .table)) in
-    let k = outer .passes .k in
-    let from = outer .passes .table in
-    let i = turn .loop .i in
-    let sum = turn .loop .sum in
-    let moved = turn .loop .moved in
-    let table = turn .loop .table in
-    let inv = turn .loop .inv in
-    let below = c .before .before .before .if1 .taken in
-    let read = c .before .before .section-words .ensures in
-    let t = turn-words (a .store) (now (a .bytes)) (now (a .words)) (start .pre .whole) i _ below read in
-    let readable = readable-words (a .store) (now (a .bytes)) (now (a .words)) (start .pre .whole) i _ below read in
-    let kind = kind-of _ readable in
-    let short = in-table n ss i _ (start .pre .inTable) t in
+    let read = c .before .before in
+    let turning = at-loop read in
+    let ss = sections (outer turning) in
+    let i = turning .loop .i in
+    let sum = turning .loop .sum in
+    let moved = turning .loop .moved in
+    let table = turning .loop .table in
+    let inv = turning .loop .inv in
+    let t = here read in
     ⊎-elim
     (λ w.
-    let at = as-mark kind (w .0 .taken) in
-    (omega arith, omega (arith, w .4, room-mark ss i _ sum t (inv .1)), ap length (w .3) ∙ length-set table _ _ ∙ inv .2, inv .3, pass-next ss i sum moved table from (c .if2 .sum) (c .if2 .moved) (c .if2 .table) (inv .4) (turn-mark ss i _ t sum moved table _ at) (w .4) (w .5) (w .3)))
+    let step = pass-at ss i (t .below) sum moved table _ (as-mark (t .words) (w .0 .taken)) in (
+      omega arith,
+      omega (arith, w .4, room-mark ss i sum (t .below) (inv .1)),
+      ap length (w .3) ∙ length-set table _ _ ∙ inv .2,
+      inv .3,
+      pass-next ss i sum moved table _ _ _ _ (inv .4) step (w .4) (w .5) (w .3),
+    ))
     (λ w.
-    let other = not-mark kind (w .0 .left) in
-    (omega arith, omega (arith, w .7, room-other ss i _ t other sum _ table _ (w .2 .ensures) (w .4 .given .1) (inv .1)), ap length (w .6) ∙ inv .2, inv .3, pass-next ss i sum moved table from (c .if2 .sum) (c .if2 .moved) (c .if2 .table) (inv .4) (turn-other ss i _ t other sum _ moved table _ (w .2 .ensures) (w .4 .given .1)) (w .7) (w .8) (w .6)))
+    let size = sym (size-words table (t .words) (w .0 .left)) ∙ sym (w .2 .ensures) ∙ w .4 .given .1 in
+    let step = pass-past ss i (t .below) sum _ moved table (not-mark (t .words) (w .0 .left)) size in (
+      omega arith,
+      omega (arith, w .7, room-size ss i sum (t .below) (inv .1) _ _ size),
+      ap length (w .6) ∙ inv .2,
+      inv .3,
+      pass-next ss i sum moved table _ _ _ _ (inv .4) step (w .7) (w .8) (w .6),
+    ))
     (c .if2 .came)
 
 same-length : tie.Need-same-length Inv-loop μ-loop Inv-passes μ-passes
-same-length c =
-    let turn = c .before .before .before in
-    let outer = turn .before .before in
-    let start = outer .before .before .before .before in
-    let a = start .args in
-    let ss = sectionsOf (a .store) (now (a .bytes)) (now (a .words)) in
-    let n = length (now (a .table)) in
-    let k = outer .passes .k in
-    let from = outer .passes .table in
-    let i = turn .loop .i in
-    let sum = turn .loop .sum in
-    let moved = turn .loop .moved in
-    let table = turn .loop .table in
-    let inv = turn .loop .inv in
-    inv .2 ∙ outer .passes .inv .2
+same-length c = long (c .before .before .before)
 
 returns : tie.Need-returns Inv-loop μ-loop Inv-passes μ-passes
 returns c =
-    let turn = c .before .before .before in
-    let outer = turn .before .before in
-    let start = outer .before .before .before .before in
-    let a = start .args in
-    let ss = sectionsOf (a .store) (now (a .bytes)) (now (a .words)) in
-    let n = length (now (a .table)) in
-    let k = outer .passes .k in
-    let from = outer .passes .table in
-    let i = turn .loop .i in
-    let sum = turn .loop .sum in
-    let moved = turn .loop .moved in
-    let table = turn .loop .table in
-    let inv = turn .loop .inv in
-    let done : length ss ≤ i = omega (arith, decode-count wordsPerSection (storeOf (a .store) (now (a .bytes)) (now (a .words))), c .before .if1 .left) in
-    reply-settled n _ table sum k (settles-calm ss k from (passes maxPasses 1 ss (now (a .table))) (turn .before .passes-test .taken) (outer .passes .inv .3) i sum moved table (inv .4) done (not-true moved (c .if3 .taken)))
+    let turning = c .before .before .before in
+    let o = outer turning in
+    let is = settles-calm (sections o) _ _ (comes-to o) (turning .before .passes-test .taken) (o .passes .inv .3) _ _ _ _ (turning .loop .inv .4) (at-end (c .before)) (not-true _ (c .if3 .taken)) in
+    (ap passesReply (sym is), ap (passesTable _) (sym is))
 
 add-k : tie.Need-add-k Inv-loop μ-loop Inv-passes μ-passes
 add-k c = omega arith
@@ -255,58 +190,51 @@ passes-less c = omega arith
 
 passes-again : tie.Need-passes-again Inv-loop μ-loop Inv-passes μ-passes
 passes-again c =
-    let turn = c .before .before .before in
-    let outer = turn .before .before in
-    let start = outer .before .before .before .before in
-    let a = start .args in
-    let ss = sectionsOf (a .store) (now (a .bytes)) (now (a .words)) in
-    let n = length (now (a .table)) in
-    let k = outer .passes .k in
-    let from = outer .passes .table in
-    let i = turn .loop .i in
-    let sum = turn .loop .sum in
-    let moved = turn .loop .moved in
-    let table = turn .loop .table in
-    let inv = turn .loop .inv in
-    let done : length ss ≤ i = omega (arith, decode-count wordsPerSection (storeOf (a .store) (now (a .bytes)) (now (a .words))), c .before .if1 .left) in
-    (omega arith, inv .3 ∙ outer .passes .inv .1, inv .2 ∙ outer .passes .inv .2, settles-on ss k from (passes maxPasses 1 ss (now (a .table))) (turn .before .passes-test .taken) (outer .passes .inv .3) i sum moved table (inv .4) done (not-false moved (c .if3 .left)))
+    let turning = c .before .before .before in
+    let o = outer turning in (
+      omega arith,
+      turning .loop .inv .3 ∙ o .passes .inv .1,
+      long turning,
+      settles-on (sections o) _ _ (comes-to o) (turning .before .passes-test .taken) (o .passes .inv .3) _ _ _ _ (turning .loop .inv .4) (at-end (c .before)) (not-false _ (c .if3 .left)),
+    )
 
 clear-requires : tie.Need-clear-requires Inv-loop μ-loop Inv-passes μ-passes
 clear-requires c κs = search needs
 
+-- ---- refused
+
 -- the table has its length however the passes are left
-left-length : (c : tie.Left-passes Inv-loop μ-loop Inv-passes μ-passes) → length (c .passes-test .table) ≡ length (now (c .before .before .before .before .before .args .table))
-left-length c =
+left-long : (c : tie.Left-passes Inv-loop μ-loop Inv-passes μ-passes) → length (c .passes-test .table) ≡ length (now (entry (c .before) .args .table))
+left-long c =
     ⊎-elim (λ w. ap length (w .1) ∙ c .before .passes .inv .2) (λ w. ap length (w .11) ∙ w .1 .inv .2 ∙ c .before .passes .inv .2) (c .passes-test .came)
+
+-- the refusal is the reply: 11 after the last pass, or 10 at the section where the walk was left
+refused : (c : tie.Left-passes Inv-loop μ-loop Inv-passes μ-passes)
+    → (Refused (c .passes-test .refusal) ≡ passesReply (comes-to (c .before))) × (replicate (length (now (entry (c .before) .args .table))) 0 ≡ passesTable (length (now (entry (c .before) .args .table))) (comes-to (c .before)))
+refused c =
+    let o = c .before in
+    ⊎-elim
+    (λ w.
+    let is = settles-out (sections o) _ _ (comes-to o) (w .0 .left) (o .passes .inv .3) in
+    (ap Refused (w .2 ∙ o .passes .inv .1) ∙ ap passesReply (sym is), ap (passesTable _) (sym is)))
+    (λ w.
+    let t = turn _ _ _ (entry o .pre .whole) _ _ (w .3 .taken) (w .4 .ensures) in
+    let narrow = sym (size-words (w .1 .table) (t .words) (w .6 .left)) ∙ sym (w .8 .ensures) ∙ w .10 .given .1 in
+    let leaves = pass-left (sections o) (w .1 .i) (t .below) (w .1 .sum) (w .1 .moved) (w .1 .table) (not-mark (t .words) (w .6 .left)) narrow in
+    let is = settles-narrow (sections o) _ _ (comes-to o) (w .0 .taken) (o .passes .inv .3) _ _ _ _ (w .1 .inv .4) leaves in
+    (ap Refused (w .12) ∙ ap passesReply (sym is), ap (passesTable _) (sym is)))
+    (c .passes-test .came)
 
 same-length-2 : tie.Need-same-length-2 Inv-loop μ-loop Inv-passes μ-passes
 same-length-2 c =
-    let cleared = c .before .before .clear in
-    let left = c .before .before .before .before in
-    ap length (cleared .ensures) ∙ length-replicate {A = ℕ} _ 0 ∙ left-length left
+    let cleared = c .before .before in
+    ap length (cleared .clear .ensures) ∙ length-replicate {A = ℕ} _ 0 ∙ left-long (cleared .before .before)
 
 returns-2 : tie.Need-returns-2 Inv-loop μ-loop Inv-passes μ-passes
 returns-2 c =
-    let cleared = c .before .before .clear in
-    let left = c .before .before .before .before in
-    let outer = left .before in
-    let start = outer .before .before .before .before in
-    let a = start .args in
-    let ss = sectionsOf (a .store) (now (a .bytes)) (now (a .words)) in
-    let n = length (now (a .table)) in
-    let s = passes maxPasses 1 ss (now (a .table)) in
-    let k = outer .passes .k in
-    let both : (Refused (left .passes-test .refusal) ≡ passesReply s) × (replicate n 0 ≡ passesTable n s) =
-    ⊎-elim
-    (λ w. reply-out n s (left .passes-test .refusal) (settles-out ss k (outer .passes .table) s (w .0 .left) (outer .passes .inv .3)) (w .2 ∙ outer .passes .inv .1))
-    (λ w.
-    let t = turn-words (a .store) (now (a .bytes)) (now (a .words)) (start .pre .whole) (w .1 .i) _ (w .3 .taken) (w .4 .ensures) in
-    let kind = kind-of _ (readable-words (a .store) (now (a .bytes)) (now (a .words)) (start .pre .whole) (w .1 .i) _ (w .3 .taken) (w .4 .ensures)) in
-    let leaves = turn-left ss (w .1 .i) _ t (not-mark kind (w .6 .left)) (w .1 .sum) (w .1 .moved) (w .1 .table) _ (w .8 .ensures) (w .10 .given .1) in
-    reply-narrow n s (left .passes-test .refusal) (w .1 .i) k (settles-narrow ss k (outer .passes .table) s (w .0 .taken) (outer .passes .inv .3) (w .1 .i) (w .1 .sum) (w .1 .moved) (w .1 .table) (w .1 .inv .4) leaves) (w .12))
-    (left .passes-test .came)
-    in
-    (both .0, cleared .ensures ∙ ap (λ (x : ℕ). replicate x 0) (left-length left) ∙ both .1)
+    let cleared = c .before .before in
+    let left = cleared .before .before in
+    (refused left .0, cleared .clear .ensures ∙ ap (λ (n : ℕ). replicate n 0) (left-long left) ∙ refused left .1)
 
 pub run-passes-spec : {M : Type 1} → statement M
 run-passes-spec =

@@ -1,59 +1,62 @@
--- The invariant: the first backward delta from i on is the first of all. The measure is what is left.
+-- The invariant: no delta before i is backward. The measure is what is left.
 -- Assumes nothing.
-use mathlib.Core.Path.{sym, _∙_}
+use Prim.Native.Nat.{_-_, _≤_}
 use native.Mathlib.Omega.{arith}
-use Prim.Native.Nat.{_-_}
-use lib.ListN.{length}
+use mathlib.Core.Path.{_≡_, sym, _∙_}
+use mathlib.Core.List.{List}
 use denote.Ref.{now}
 use Rattle.records.specs.Store.{storeOf, wordsPerSection}
-use Rattle.settling.specs.Pieces.{sectionsOf}
-use Rattle.layout.specs.Conditions.{backwardAt}
-use Rattle.settling.proofs.Sections.{decode-count, words-fit, turn-words as turn-is, readable-words}
-use Rattle.settling.proofs.Searches.{Sought, sought-start, sought-hit, sought-next, sought-done, backward-first, in-table, backward-test}
+use Rattle.records.specs.Sections.{Section}
+use Rattle.slices.proofs.First.{NoneBefore, search-start, search-next, search-hit, search-done}
+use Rattle.layout.specs.Conditions.{backwardAt, firstBackward}
+use Rattle.settling.specs.SectionWalk.{sectionsOf}
+use Rattle.settling.proofs.Sections.{decode-count, words-fit, Turn, turn, turn-in, backward-test}
 use Rattle.settling.proofs.search.first_backward.Statement.{statement}
 use Rattle.settling.proofs.search.first_backward.Tie as tie
 
 abbrev Inv-loop : tie.InvT-loop
-Inv-loop store bytes words table i₀ i = Sought (store .sections) (backwardAt table (sectionsOf store bytes words)) i
+Inv-loop store bytes words table i₀ i = (i ≤ store .sections) × NoneBefore (backwardAt table (sectionsOf store bytes words)) i
 
 abbrev μ-loop : tie.MeasureT-loop
 μ-loop store bytes words table i₀ i = store .sections - i
 
+-- the entry and the sections, seen from the loop
+abbrev entry : tie.At-loop Inv-loop μ-loop → tie.Start Inv-loop μ-loop
+entry c = c .before .before .before .before
+
+abbrev sections : tie.At-loop Inv-loop μ-loop → List Section
+sections c = sectionsOf (entry c .args .store) (now (entry c .args .bytes)) (now (entry c .args .words))
+
+-- the turn, where the section's words were read
+abbrev at-loop : tie.After-section-words Inv-loop μ-loop → tie.At-loop Inv-loop μ-loop
+at-loop c = c .before .before .before
+
+here : (c : tie.After-section-words Inv-loop μ-loop) → Turn (sections (at-loop c)) (at-loop c .loop .i) (c .section-words .result)
+here c = turn _ _ _ (entry (at-loop c) .pre .whole) _ _ (c .before .if1 .taken) (c .section-words .ensures)
+
+-- the code's test is 12's
+tested : (c : tie.After-is-backward Inv-loop μ-loop) → c .is-backward .result ≡ backwardAt (now (entry (at-loop (c .before)) .args .table)) (sections (at-loop (c .before))) (at-loop (c .before) .loop .i)
+tested c = c .is-backward .ensures ∙ backward-test _ _ _ _ (here (c .before))
+
 loop-holds : tie.Need-loop-holds Inv-loop μ-loop
-loop-holds c = sought-start _ _
+loop-holds c = (omega arith, search-start _)
 
 cast-section-words : tie.Need-cast-section-words Inv-loop μ-loop
 cast-section-words c = omega arith
 
 section-words-requires : tie.Need-section-words-requires Inv-loop μ-loop
 section-words-requires c κs =
-    let turn = c .before .before in
-    let start = turn .before .before .before .before in
-    let a = start .args in
-    let ss = sectionsOf (a .store) (now (a .bytes)) (now (a .words)) in
-    let i = turn .loop .i in
-    words-fit (a .store) (now (a .bytes)) (now (a .words)) (start .pre .whole) i (c .if1 .taken)
+    let turning = c .before .before in
+    words-fit _ _ _ (entry turning .pre .whole) (turning .loop .i) (c .if1 .taken)
 
 is-backward-requires : tie.Need-is-backward-requires Inv-loop μ-loop
-is-backward-requires c κs =
-    let turn = c .before .before .before in
-    let start = turn .before .before .before .before in
-    let a = start .args in
-    let ss = sectionsOf (a .store) (now (a .bytes)) (now (a .words)) in
-    let i = turn .loop .i in
-    let t = turn-is (a .store) (now (a .bytes)) (now (a .words)) (start .pre .whole) i _ (c .before .if1 .taken) (c .section-words .ensures) in
-    (readable-words (a .store) (now (a .bytes)) (now (a .words)) (start .pre .whole) i _ (c .before .if1 .taken) (c .section-words .ensures), in-table (length (now (a .table))) ss i _ (start .pre .inTable) t)
+is-backward-requires c κs = turn-in _ _ _ _ (entry (at-loop c) .pre) _ _ (here c)
 
 returns : tie.Need-returns Inv-loop μ-loop
+unfolding firstBackward
 returns c =
-    let turn = c .before .before .before .before .before in
-    let start = turn .before .before .before .before in
-    let a = start .args in
-    let ss = sectionsOf (a .store) (now (a .bytes)) (now (a .words)) in
-    let i = turn .loop .i in
-    let t = turn-is (a .store) (now (a .bytes)) (now (a .words)) (start .pre .whole) i _ (c .before .before .before .if1 .taken) (c .before .before .section-words .ensures) in
-    let test = sym (backward-test (now (a .table)) ss i _ t) ∙ sym (c .before .is-backward .ensures) ∙ c .if2 .taken in
-    sought-hit _ (backwardAt (now (a .table)) ss) i (turn .loop .inv) (c .before .before .before .if1 .taken) test ∙ backward-first (now (a .table)) ss (a .store .sections) (decode-count wordsPerSection (storeOf (a .store) (now (a .bytes)) (now (a .words))))
+    let read = c .before .before in
+    search-hit _ _ _ (at-loop read .loop .inv .1) (here read .below) (sym (tested (c .before)) ∙ c .if2 .taken)
 
 add-i : tie.Need-add-i Inv-loop μ-loop
 add-i c = omega arith
@@ -63,23 +66,16 @@ loop-less c = omega arith
 
 loop-again : tie.Need-loop-again Inv-loop μ-loop
 loop-again c =
-    let turn = c .before .before .before .before .before in
-    let start = turn .before .before .before .before in
-    let a = start .args in
-    let ss = sectionsOf (a .store) (now (a .bytes)) (now (a .words)) in
-    let i = turn .loop .i in
-    let t = turn-is (a .store) (now (a .bytes)) (now (a .words)) (start .pre .whole) i _ (c .before .before .before .if1 .taken) (c .before .before .section-words .ensures) in
-    let test = sym (backward-test (now (a .table)) ss i _ t) ∙ sym (c .before .is-backward .ensures) ∙ c .if2 .left in
-    sought-next _ (backwardAt (now (a .table)) ss) i (turn .loop .inv) (c .before .before .before .if1 .taken) test
+    let read = c .before .before in
+    (omega arith, search-next _ _ (at-loop read .loop .inv .1) (sym (tested (c .before)) ∙ c .if2 .left))
 
 returns-2 : tie.Need-returns-2 Inv-loop μ-loop
+unfolding firstBackward
 returns-2 c =
-    let turn = c .before .before in
-    let start = turn .before .before .before .before in
-    let a = start .args in
-    let ss = sectionsOf (a .store) (now (a .bytes)) (now (a .words)) in
-    let i = turn .loop .i in
-    sought-done _ (backwardAt (now (a .table)) ss) i (turn .loop .inv) (c .if1 .left) ∙ backward-first (now (a .table)) ss (a .store .sections) (decode-count wordsPerSection (storeOf (a .store) (now (a .bytes)) (now (a .words))))
+    let turning = c .before .before in
+    let a = entry turning .args in
+    let count = decode-count wordsPerSection (storeOf (a .store) (now (a .bytes)) (now (a .words))) in
+    search-done _ _ _ (turning .loop .inv .1) (omega (arith, count)) (omega (arith, count))
 
 pub first-backward-spec : {M : Type 1} → statement M
 first-backward-spec =

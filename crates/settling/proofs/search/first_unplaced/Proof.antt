@@ -1,26 +1,46 @@
--- Where all marks are placed, no reference is to an unplaced one. Else the invariant: the first reference to an unplaced mark from i on
--- is the first of all; and the measure is what is left.
+-- Where all marks are placed, no reference is to an unplaced one. Else the invariant: no section before i is one. The measure is what is left.
 -- Assumes nothing.
-use mathlib.Core.Path.{refl, sym, _∙_}
+use Prim.Native.Nat.{_-_, _≤_}
 use native.Mathlib.Omega.{arith}
-use Prim.Native.Nat.{_-_}
-use lib.ListN.{length}
+use mathlib.Core.Path.{_≡_, refl, sym, _∙_}
+use mathlib.Core.List.{List}
+use borrow.Author.Needs.{needs}
 use denote.Ref.{now}
 use Rattle.records.specs.Store.{storeOf, wordsPerSection}
-use Rattle.settling.specs.Pieces.{sectionsOf}
-use Rattle.layout.specs.Conditions.{unplacedAt}
-use Rattle.settling.proofs.Sections.{decode-count, words-fit, turn-words as turn-is, readable-words}
-use Rattle.settling.proofs.Searches.{Sought, sought-start, sought-hit, sought-next, sought-done, unplaced-first, in-table}
-use Rattle.settling.proofs.Places.{unplaced-test, all-placed}
-use borrow.Author.Needs.{needs}
+use Rattle.records.specs.Sections.{Section}
+use Rattle.slices.proofs.First.{NoneBefore, search-start, search-next, search-hit, search-done}
+use Rattle.layout.specs.Conditions.{unplacedAt, firstUnplaced}
+use Rattle.settling.specs.SectionWalk.{sectionsOf}
+use Rattle.settling.proofs.Sections.{decode-count, words-fit, Turn, turn, turn-in}
+use Rattle.settling.proofs.FirstPlacings.{unplaced-test, all-placed}
 use Rattle.settling.proofs.search.first_unplaced.Statement.{statement}
 use Rattle.settling.proofs.search.first_unplaced.Tie as tie
 
 abbrev Inv-loop : tie.InvT-loop
-Inv-loop store bytes words table i₀ i = Sought (store .sections) (unplacedAt (sectionsOf store bytes words)) i
+Inv-loop store bytes words table i₀ i = (i ≤ store .sections) × NoneBefore (unplacedAt (sectionsOf store bytes words)) i
 
 abbrev μ-loop : tie.MeasureT-loop
 μ-loop store bytes words table i₀ i = store .sections - i
+
+-- the entry and the sections, seen from the loop
+abbrev entry : tie.At-loop Inv-loop μ-loop → tie.Start Inv-loop μ-loop
+entry c = c .before .before .before .before .before .before
+
+abbrev sections : tie.At-loop Inv-loop μ-loop → List Section
+sections c = sectionsOf (entry c .args .store) (now (entry c .args .bytes)) (now (entry c .args .words))
+
+-- the turn, where the section's words were read
+abbrev at-loop : tie.After-section-words Inv-loop μ-loop → tie.At-loop Inv-loop μ-loop
+at-loop c = c .before .before .before
+
+here : (c : tie.After-section-words Inv-loop μ-loop) → Turn (sections (at-loop c)) (at-loop c .loop .i) (c .section-words .result)
+here c = turn _ _ _ (entry (at-loop c) .pre .0 .whole) _ _ (c .before .if2 .taken) (c .section-words .ensures)
+
+-- the code's test is 8's
+tested : (c : tie.After-is-unplaced Inv-loop μ-loop) → c .is-unplaced .result ≡ unplacedAt (sections (at-loop (c .before))) (at-loop (c .before) .loop .i)
+tested c =
+    let s = entry (at-loop (c .before)) in
+    c .is-unplaced .ensures ∙ unplaced-test _ _ _ (s .pre .1) (s .pre .0 .inTable) _ _ (here (c .before))
 
 all-placed-requires : tie.Need-all-placed-requires Inv-loop μ-loop
 all-placed-requires c κs = search needs
@@ -29,44 +49,28 @@ returns : tie.Need-returns Inv-loop μ-loop
 returns c =
     let start = c .before .before .before .before .before in
     let a = start .args in
-    let ss = sectionsOf (a .store) (now (a .bytes)) (now (a .words)) in
-    sym (decode-count wordsPerSection (storeOf (a .store) (now (a .bytes)) (now (a .words)))) ∙ all-placed (length (now (a .table))) ss (now (a .table)) (start .pre .1) refl (sym (c .before .all-placed .ensures) ∙ c .if1 .taken) (start .pre .0 .inTable)
+    sym (decode-count wordsPerSection (storeOf (a .store) (now (a .bytes)) (now (a .words))))
+    ∙ all-placed _ _ _ (start .pre .1) (start .pre .0 .inTable) refl (sym (c .before .all-placed .ensures) ∙ c .if1 .taken)
 
 loop-holds : tie.Need-loop-holds Inv-loop μ-loop
-loop-holds c = sought-start _ _
+loop-holds c = (omega arith, search-start _)
 
 cast-section-words : tie.Need-cast-section-words Inv-loop μ-loop
 cast-section-words c = omega arith
 
 section-words-requires : tie.Need-section-words-requires Inv-loop μ-loop
 section-words-requires c κs =
-    let turn = c .before .before in
-    let start = turn .before .before .before .before .before .before in
-    let a = start .args in
-    let ss = sectionsOf (a .store) (now (a .bytes)) (now (a .words)) in
-    let i = turn .loop .i in
-    words-fit (a .store) (now (a .bytes)) (now (a .words)) (start .pre .0 .whole) i (c .if2 .taken)
+    let turning = c .before .before in
+    words-fit _ _ _ (entry turning .pre .0 .whole) (turning .loop .i) (c .if2 .taken)
 
 is-unplaced-requires : tie.Need-is-unplaced-requires Inv-loop μ-loop
-is-unplaced-requires c κs =
-    let turn = c .before .before .before in
-    let start = turn .before .before .before .before .before .before in
-    let a = start .args in
-    let ss = sectionsOf (a .store) (now (a .bytes)) (now (a .words)) in
-    let i = turn .loop .i in
-    let t = turn-is (a .store) (now (a .bytes)) (now (a .words)) (start .pre .0 .whole) i _ (c .before .if2 .taken) (c .section-words .ensures) in
-    (readable-words (a .store) (now (a .bytes)) (now (a .words)) (start .pre .0 .whole) i _ (c .before .if2 .taken) (c .section-words .ensures), in-table (length (now (a .table))) ss i _ (start .pre .0 .inTable) t)
+is-unplaced-requires c κs = turn-in _ _ _ _ (entry (at-loop c) .pre .0) _ _ (here c)
 
 returns-2 : tie.Need-returns-2 Inv-loop μ-loop
+unfolding firstUnplaced
 returns-2 c =
-    let turn = c .before .before .before .before .before in
-    let start = turn .before .before .before .before .before .before in
-    let a = start .args in
-    let ss = sectionsOf (a .store) (now (a .bytes)) (now (a .words)) in
-    let i = turn .loop .i in
-    let t = turn-is (a .store) (now (a .bytes)) (now (a .words)) (start .pre .0 .whole) i _ (c .before .before .before .if2 .taken) (c .before .before .section-words .ensures) in
-    let test = sym (unplaced-test (length (now (a .table))) ss i _ (now (a .table)) (start .pre .1) (in-table (length (now (a .table))) ss i _ (start .pre .0 .inTable) t) t) ∙ sym (c .before .is-unplaced .ensures) ∙ c .if3 .taken in
-    sought-hit _ (unplacedAt ss) i (turn .loop .inv) (c .before .before .before .if2 .taken) test ∙ unplaced-first ss (a .store .sections) (decode-count wordsPerSection (storeOf (a .store) (now (a .bytes)) (now (a .words))))
+    let read = c .before .before in
+    search-hit _ _ _ (at-loop read .loop .inv .1) (here read .below) (sym (tested (c .before)) ∙ c .if3 .taken)
 
 add-i : tie.Need-add-i Inv-loop μ-loop
 add-i c = omega arith
@@ -76,23 +80,16 @@ loop-less c = omega arith
 
 loop-again : tie.Need-loop-again Inv-loop μ-loop
 loop-again c =
-    let turn = c .before .before .before .before .before in
-    let start = turn .before .before .before .before .before .before in
-    let a = start .args in
-    let ss = sectionsOf (a .store) (now (a .bytes)) (now (a .words)) in
-    let i = turn .loop .i in
-    let t = turn-is (a .store) (now (a .bytes)) (now (a .words)) (start .pre .0 .whole) i _ (c .before .before .before .if2 .taken) (c .before .before .section-words .ensures) in
-    let test = sym (unplaced-test (length (now (a .table))) ss i _ (now (a .table)) (start .pre .1) (in-table (length (now (a .table))) ss i _ (start .pre .0 .inTable) t) t) ∙ sym (c .before .is-unplaced .ensures) ∙ c .if3 .left in
-    sought-next _ (unplacedAt ss) i (turn .loop .inv) (c .before .before .before .if2 .taken) test
+    let read = c .before .before in
+    (omega arith, search-next _ _ (at-loop read .loop .inv .1) (sym (tested (c .before)) ∙ c .if3 .left))
 
 returns-3 : tie.Need-returns-3 Inv-loop μ-loop
+unfolding firstUnplaced
 returns-3 c =
-    let turn = c .before .before in
-    let start = turn .before .before .before .before .before .before in
-    let a = start .args in
-    let ss = sectionsOf (a .store) (now (a .bytes)) (now (a .words)) in
-    let i = turn .loop .i in
-    sought-done _ (unplacedAt ss) i (turn .loop .inv) (c .if2 .left) ∙ unplaced-first ss (a .store .sections) (decode-count wordsPerSection (storeOf (a .store) (now (a .bytes)) (now (a .words))))
+    let turning = c .before .before in
+    let a = entry turning .args in
+    let count = decode-count wordsPerSection (storeOf (a .store) (now (a .bytes)) (now (a .words))) in
+    search-done _ _ _ (turning .loop .inv .1) (omega (arith, count)) (omega (arith, count))
 
 pub first-unplaced-spec : {M : Type 1} → statement M
 first-unplaced-spec =

@@ -1,7 +1,8 @@
 -- `is_short` is the definition, all kinds in one test.
 -- Assumes nothing.
-use Rattle.settling.proofs.Words.{kind-of, short-words}
+use mathlib.Core.Path.{refl}
 use borrow.Author.Needs.{needs}
+use Rattle.settling.specs.SectionWalk.{shortWords}
 use Rattle.settling.proofs.search.is_short.Statement.{statement}
 use Rattle.settling.proofs.search.is_short.Tie as tie
 
@@ -12,7 +13,8 @@ cast-second : tie.Need-cast-second
 cast-second c = search needs
 
 returns : tie.Need-returns
-returns c = short-words _ (kind-of _ (c .before .before .pre))
+unfolding shortWords
+returns c = refl
 
 pub is-short-spec : {M : Type 1} → statement M
 is-short-spec = tie.close (tie.spec cast-first cast-second returns)

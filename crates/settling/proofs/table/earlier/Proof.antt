@@ -1,7 +1,7 @@
 -- `earlier` is the definition.
 -- Assumes nothing.
 use borrow.Author.Tests.{not-true, not-false}
-use Rattle.settling.proofs.Starts.{earlier-not, earlier-so, earlier-later}
+use Rattle.settling.proofs.StartTable.{earlier-not, earlier-so, earlier-later}
 use Rattle.settling.proofs.table.earlier.Statement.{statement}
 use Rattle.settling.proofs.table.earlier.Tie as tie
 

@@ -5,7 +5,7 @@ use native.Mathlib.Omega.{arith}
 use Prim.Native.Nat.{_-_, _≤_}
 use lib.ListN.{length, length-set}
 use denote.Ref.{now}
-use Rattle.settling.proofs.Starts.{LessTo, less-start, less-next, less-done}
+use Rattle.settling.proofs.StartTable.{LessTo, less-start, less-next, less-done}
 use Rattle.settling.proofs.table.less_one.Statement.{statement}
 use Rattle.settling.proofs.table.less_one.Tie as tie
 

@@ -1,7 +1,7 @@
 -- `place_mark` is the definition: the entry was 0, or it was not.
 -- Assumes nothing.
 use denote.Ref.{now}
-use Rattle.settling.proofs.Starts.{placed-set, placed-kept}
+use Rattle.settling.proofs.StartTable.{placed-set, placed-kept}
 use borrow.Author.Needs.{needs}
 use Rattle.settling.proofs.table.place_mark.Statement.{statement}
 use Rattle.settling.proofs.table.place_mark.Tie as tie

@@ -39,7 +39,9 @@ ends-at-requires : tie.Need-ends-at-requires
 ends-at-requires c κs = search needs
 
 returns-2 : tie.Need-returns-2
-returns-2 c = λ h. record { isKind = c .before .before .before .if1 .left; starts = c .ends-at .ensures h .0; ends = c .ends-at .ensures h .1 }
+returns-2 c =
+    let at-if1 = c .before .before .before in
+    λ h. record { isKind = at-if1 .if1 .left; starts = c .ends-at .ensures h .0; ends = c .ends-at .ensures h .1 }
 
 pub is-kind-to-spec : {M : Type 1} → statement M
 is-kind-to-spec =

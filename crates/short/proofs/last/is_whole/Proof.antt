@@ -38,7 +38,9 @@ is-mark-requires : tie.Need-is-mark-requires
 is-mark-requires c κs = search needs
 
 returns : tie.Need-returns
-returns c = λ h. whole-mark _ _ (c .before .before .before .if1 .taken) (c .is-mark .ensures h .0) (c .is-mark .ensures h .1)
+returns c =
+    let at-if1 = c .before .before .before in
+    λ h. whole-mark _ _ (at-if1 .if1 .taken) (c .is-mark .ensures h .0) (c .is-mark .ensures h .1)
 
 add-ends-at : tie.Need-add-ends-at
 add-ends-at c = search needs
@@ -62,7 +64,10 @@ ends-at-requires : tie.Need-ends-at-requires
 ends-at-requires c κs = search needs
 
 returns-2 : tie.Need-returns-2
-returns-2 c = λ h. whole-bytes _ _ (omega (arith, c .before .before .before .before .if1 .left)) (c .before .before .before .if2 .taken) (c .ends-at .ensures h .0) (c .ends-at .ensures h .1)
+returns-2 c =
+    let at-if2 = c .before .before .before in
+    let at-if1 = at-if2 .before in
+    λ h. whole-bytes _ _ (omega (arith, at-if1 .if1 .left)) (at-if2 .if2 .taken) (c .ends-at .ensures h .0) (c .ends-at .ensures h .1)
 
 returns-3 : tie.Need-returns-3
 returns-3 c = λ h. absurd (false≢true h)

@@ -1,0 +1,125 @@
+-- The law of each answer of assembly: 6 to 13 and written, each exactly in its stated condition. Assumes nothing.
+use Prim.Native.Nat.{ℕ}
+use mathlib.Core.Path.{_≡_, refl, sym, ap, _∙_, subst}
+use mathlib.Core.Bool.{Bool, true, false, cond}
+use mathlib.Core.Logic.{_↔_}
+use mathlib.Core.List.{List}
+use lib.Dec.{eqb}
+use lib.ListN.{length}
+use Rattle.units.specs.Reply.{Reply, accepted, refused}
+use Rattle.records.specs.Store.{Store}
+use Rattle.records.specs.Sections.{decode}
+use Rattle.records.specs.Damage.{wholeSoundness}
+use Rattle.records.specs.declared.damage.Soundness.{Soundness}
+use Rattle.records.specs.declared.damage.Soundness.the-variants as soundness
+use Rattle.undamaged.specs.View.{Undamaged}
+use Rattle.undamaged.proofs.Soundness.{damaged-at-iff}
+use Rattle.layout.specs.Answer as layout
+use Rattle.layout.proofs.Answers.{answer-law}
+use Rattle.settling.specs.Settle.{Settlement, settlement, settling}
+use Rattle.assembler.specs.Assemble.{Outcome, isFull, assembly}
+use Rattle.assembler.specs.AssemblyAnswers.{AssemblyAnswer, written, damaged, noLayout, resultFull, assemblyReply, AnswerSays}
+use Rattle.assembler.proofs.Outcomes.{outcome-refused, outcome-full, outcome-written, fits-law, full-law}
+use Rattle.assembler.proofs.Laid.{sound-settles}
+
+-- ---- a reply tells the answer
+
+-- the refusal that a number, a section and passes stand for
+refusalAt : ℕ → ℕ → ℕ → AssemblyAnswer
+refusalAt number i k =
+    cond (eqb number 6) (damaged i)
+    (cond (eqb number 7) (noLayout (layout.shortTable i))
+    (cond (eqb number 8) (noLayout (layout.unplaced i))
+    (cond (eqb number 9) (noLayout (layout.placedApart i))
+    (cond (eqb number 10) (noLayout (layout.tooNarrow i k))
+    (cond (eqb number 11) (noLayout layout.unsettled)
+    (cond (eqb number 12) (noLayout (layout.backward i k))
+    (resultFull k)))))))
+
+-- the answer that a reply stands for
+answerOf : Reply layout.Laid → AssemblyAnswer
+answerOf (accepted l) = written (l .length) (l .passes)
+answerOf (refused number i k) = refusalAt number i k
+
+-- it comes back
+answer-back : (a : AssemblyAnswer) → answerOf (assemblyReply a) ≡ a
+unfolding answerOf refusalAt
+answer-back (written size k) = refl
+answer-back (damaged i) = refl
+answer-back (noLayout (layout.shortTable i)) = refl
+answer-back (noLayout (layout.unplaced i)) = refl
+answer-back (noLayout (layout.placedApart i)) = refl
+answer-back (noLayout (layout.tooNarrow i k)) = refl
+answer-back (noLayout layout.unsettled) = refl
+answer-back (noLayout (layout.backward i k)) = refl
+answer-back (resultFull k) = refl
+
+module _ (w : ℕ) (st : Store) (n : ℕ) (result : List ℕ) (position : ℕ) where
+  -- what is said of an answer
+  abbrev Said : AssemblyAnswer → Type 0
+  Said a = AnswerSays w st n (length result) position a
+
+  -- its reply is the defined one
+  abbrev Replied : AssemblyAnswer → Type 0
+  Replied a = assembly w st n result position .reply ≡ assemblyReply a
+
+  -- so of an outcome
+  replied : (a : AssemblyAnswer) (o : Outcome) → assembly w st n result position ≡ o → o .reply ≡ assemblyReply a → Replied a
+  replied a o e h = ap (λ (x : Outcome). x .reply) e ∙ h
+
+  -- an answer of the settling over an undamaged store
+  answered : (a : layout.Answer) → Undamaged w st → layout.Says n (decode w st) a → settling w n st ≡ settlement n soundness.Sound a
+  answered a u s = sound-settles w n st u ∙ ap (settlement n soundness.Sound) (answer-law n (decode w st) a .1 s)
+
+  -- a damaged store
+  settles-damaged : (i : ℕ) → wholeSoundness w st ≡ soundness.Damaged i → settling w n st .reply ≡ assemblyReply (damaged i)
+  unfolding settling
+  settles-damaged i e = rw e
+
+  -- what is said of an answer makes it the answer
+  says-replied : (a : AssemblyAnswer) → Said a → Replied a
+  says-replied (written size k) h =
+      let e = answered (layout.laidOut (h .0 .0) size k) (h .0 .1) (h .0 .2) in
+      replied (written size k) _ (outcome-written w st n result position (h .0 .0) size k e (fits-law (length result) position size .1 (h .1))) refl
+  says-replied (damaged i) h =
+      replied (damaged i) _ (outcome-refused w st n result position _ _ _ (settles-damaged i (damaged-at-iff w st i .1 h))) refl
+  says-replied (noLayout r) h =
+      let e = ap (λ (s : Settlement). s .reply) (answered (layout.noLayout r) (h .0) (h .1)) in
+      replied (noLayout r) _ (outcome-refused w st n result position _ _ _ e) refl
+  says-replied (resultFull k) h =
+      let e = answered (layout.laidOut (h .1 .0) (h .0) k) (h .1 .1) (h .1 .2) in
+      replied (resultFull k) _ (outcome-full w st n result position (h .1 .0) (h .0) k e (full-law (length result) position (h .0) .1 (h .2))) refl
+
+  -- something is said of some answer: laid out
+  said-laid : (table : List ℕ) (size k : ℕ) → Undamaged w st → layout.Says n (decode w st) (layout.laidOut table size k) → (a : AssemblyAnswer) × Said a
+  said-laid table size k u s = go (isFull (length result) position size) refl
+    where
+      go : (b : Bool) → isFull (length result) position size ≡ b → (a : AssemblyAnswer) × Said a
+      go true f = (resultFull k, (size, (table, u, s), full-law (length result) position size .0 f))
+      go false f = (written size k, ((table, u, s), fits-law (length result) position size .0 f))
+
+  -- or refused by the settling
+  said-answer : Undamaged w st → (b : layout.Answer) → layout.Says n (decode w st) b → (a : AssemblyAnswer) × Said a
+  said-answer u (layout.laidOut table size k) s = said-laid table size k u s
+  said-answer u (layout.noLayout r) s = (noLayout r, (u, s))
+
+  -- in every case
+  said : (a : AssemblyAnswer) × Said a
+  said = go (wholeSoundness w st) refl
+    where
+      go : (s : Soundness) → wholeSoundness w st ≡ s → (a : AssemblyAnswer) × Said a
+      go soundness.Sound e = said-answer e (layout.answer n (decode w st)) (answer-law n (decode w st) (layout.answer n (decode w st)) .0 refl)
+      go (soundness.Damaged i) e = (damaged i, damaged-at-iff w st i .0 e)
+
+  -- the answer is one of them
+  pub assembly-answers : (a : AssemblyAnswer) × (assembly w st n result position .reply ≡ assemblyReply a)
+  assembly-answers = (said .0, says-replied (said .0) (said .1))
+
+  -- each answer is given in its stated condition and in no other
+  pub assembly-law : (a : AssemblyAnswer) → (assembly w st n result position .reply ≡ assemblyReply a) ↔ AnswerSays w st n (length result) position a
+  assembly-law a = (
+    λ h.
+        let same : assemblyReply (said .0) ≡ assemblyReply a = sym (says-replied (said .0) (said .1)) ∙ h in
+        subst Said (sym (answer-back (said .0)) ∙ ap answerOf same ∙ answer-back a) (said .1),
+    says-replied a,
+  )

@@ -1,0 +1,46 @@
+-- Document 01, 'Replies': the condition of each answer of assembly, 6 to 13. 'Each number comes in its stated condition and in no other':
+-- that it is given exactly then is `assembly-law` of proofs/AssemblyAnswers. Assumes nothing.
+use Prim.Native.Nat.{ℕ, _+_, _≤_, _<_}
+use mathlib.Core.Path.{_≡_}
+use mathlib.Core.Bool.{true, false}
+use mathlib.Core.Logic.{_⊎_}
+use mathlib.Core.List.{List}
+use Rattle.units.specs.Replies as number
+use Rattle.units.specs.Reply.{Reply, accepted, refused, numbersReply}
+use Rattle.records.specs.Store.{Store}
+use Rattle.records.specs.Sections.{decode}
+use Rattle.records.specs.Damage.{badCount}
+use Rattle.undamaged.specs.View.{Undamaged, FirstBreak}
+use Rattle.layout.specs.Answer as layout
+
+-- what assembly can answer
+pub data AssemblyAnswer : Type 0 where
+  -- the code's length, the passes made
+  written : ℕ → ℕ → AssemblyAnswer
+  -- 6: the section
+  damaged : ℕ → AssemblyAnswer
+  -- 7 to 12
+  noLayout : layout.LayoutRefusal → AssemblyAnswer
+  -- 13: the passes made
+  resultFull : ℕ → AssemblyAnswer
+
+-- each as a reply
+abbrev pub assemblyReply : AssemblyAnswer → Reply layout.Laid
+assemblyReply (written size k) = accepted (record { length = size; passes = k })
+assemblyReply (damaged i) = refused number.damaged i 0
+assemblyReply (noLayout r) = numbersReply (layout.layoutNumbers r)
+assemblyReply (resultFull k) = refused number.resultFull 0 k
+
+-- the sections are laid out in so many bytes by so many passes, and 6 to 12 don't hold
+abbrev LaidOutIn : ℕ → Store → ℕ → ℕ → ℕ → Type 0
+LaidOutIn w st n size passes = (table : List ℕ) × Undamaged w st × layout.Says n (decode w st) (layout.laidOut table size passes)
+
+-- the condition of each answer, room being the result's length
+abbrev pub AnswerSays : ℕ → Store → ℕ → ℕ → ℕ → AssemblyAnswer → Type 0
+AnswerSays w st n room position (written size k) = LaidOutIn w st n size k × (position + size ≤ room)
+-- 6: a bad count, and the section is 0; or the first section that breaks a rule
+AnswerSays w st n room position (damaged i) = ((badCount w st ≡ true) × (i ≡ 0)) ⊎ ((badCount w st ≡ false) × FirstBreak w st i)
+-- 7 to 12 over the sections of an undamaged store: Says, of layout/specs/Answer
+AnswerSays w st n room position (noLayout r) = Undamaged w st × layout.Says n (decode w st) (layout.noLayout r)
+-- 13: 'the code passes the result, or the position does'
+AnswerSays w st n room position (resultFull k) = (size : ℕ) × LaidOutIn w st n size k × (room < position + size)

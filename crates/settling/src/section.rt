@@ -1,0 +1,65 @@
+// One section as the walks of settling read it: by its three words, of which nothing is made. In an undamaged store a kind below
+// Direct that isn't a mark is Ops or Data, and one above it a delta.
+use records::Assembler;
+use records::StoredSection;
+use records::form_of;
+use records::kind;
+use units::SizeFor;
+use units::form;
+ghost use mathlib.Core.Path.{_≡_};
+ghost use Prim.Native.Nat.{_+_, _*_, _≤_, _<_};
+ghost use lib.ListN.{length};
+ghost use Rattle.records.specs.Record.{directKind};
+ghost use Rattle.records.specs.Store.{wordsPerSection, wordsAt};
+ghost use Rattle.settling.specs.SectionWalk.{MarksIn, valueWords, leastWords, sizeWords};
+
+// The three words of section i. Private, and so without a test of the index, which every turn of every walk would pay for.
+pub(crate) fn section_words(words: &[u32], i: usize) -> StoredSection
+    requires { ⌜ wordsPerSection * (i + 1) ≤ length (now words) ⌝ }
+    ensures { λ r. ⌜ r ≡ wordsAt wordsPerSection (now (words .entry)) i ⌝ }
+{
+    let at = Assembler::WORDS * i;
+    StoredSection {
+        kind: words[at],
+        first: words[at + 1],
+        second: words[at + 2],
+    }
+}
+
+// A reference's value by the table as it is; an end below its start reads 0.
+fn value_of(section: StoredSection, table: &[u32]) -> u32
+    requires { ⌜ MarksIn (length (now table)) section × (directKind ≤ section .kind) ⌝ }
+    ensures { λ r. ⌜ r ≡ valueWords (now (table .entry)) section ⌝ }
+{
+    let first = table[section.first as usize];
+    if section.kind == kind::DIRECT {
+        return first;
+    }
+    let end = table[section.second as usize];
+    if end < first {
+        return 0;
+    }
+    end - first
+}
+
+// The least size of a section that isn't a mark.
+pub(crate) fn least_size(section: StoredSection) -> u32
+    requires { ⌜ (section .kind < directKind → section .first ≤ section .second) ⌝ }
+    ensures { λ r. ⌜ r ≡ leastWords section ⌝ }
+{
+    if section.kind < kind::DIRECT {
+        return section.second - section.first;
+    }
+    form::least_size(form_of(section))
+}
+
+// The size of a section that isn't a mark, by the table as it is; or too narrow.
+pub(crate) fn size_of(section: StoredSection, table: &[u32]) -> SizeFor
+    requires { ⌜ MarksIn (length (now table)) section × (section .kind < directKind → section .first ≤ section .second) ⌝ }
+    ensures { λ r. ⌜ r ≡ sizeWords (now (table .entry)) section ⌝ }
+{
+    if section.kind < kind::DIRECT {
+        return SizeFor::Bytes(section.second - section.first);
+    }
+    form::size_for(form_of(section), value_of(section, table))
+}
