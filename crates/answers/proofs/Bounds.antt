@@ -25,7 +25,7 @@ use Rattle.layout.specs.Answer.{laidOut, noLayout, Says}
 use Rattle.layout.proofs.Answers.{answer-law}
 use Rattle.settling.specs.Settle.{settlement}
 use Rattle.settling.proofs.Sections.{decode-count}
-use Rattle.emission.proofs.Places.{still-sum, sizes-five}
+use Rattle.assembler.proofs.Places.{still-sum, sizes-five}
 use Rattle.assembler.specs.Assemble.{assembly}
 use Rattle.assembler.specs.AssemblyAnswers as answer
 use Rattle.assembler.specs.AssemblyAnswers.{AssemblyAnswer, assemblyReply, AnswerSays}

@@ -16,7 +16,7 @@ use Rattle.layout.specs.Answer.{Laid}
 use Rattle.settling.specs.Settle.{settling, settledReply}
 use Rattle.settling.specs.declared.Settled.{Settled}
 use Rattle.settling.specs.declared.Settled.the-variants.{LaidOut, Refused}
-use Rattle.emission.specs.Emission.{codeOf}
+use Rattle.assembler.specs.Emission.{codeOf}
 use Rattle.assembler.specs.Assemble.{written, Outcome, refusal, isFull, assembly}
 use Rattle.assembler.specs.Demand3.{Demand3}
 use Rattle.assembler.specs.Instructions.{CodePushes}

@@ -26,9 +26,9 @@ use Rattle.layout.proofs.Demand3.{demand-3}
 use Rattle.records.specs.declared.damage.Soundness.the-variants.{Sound}
 use Rattle.settling.specs.Settle.{Settlement, settlement, settling}
 use Rattle.settling.proofs.Sections.{stored-is}
-use Rattle.emission.specs.Emission.{codeOf, writtenLayout}
-use Rattle.emission.proofs.Lengths.{written-settled}
-use Rattle.emission.proofs.Places.{still-sum, sizes-five}
+use Rattle.assembler.specs.Emission.{codeOf, writtenLayout}
+use Rattle.assembler.proofs.Lengths.{written-settled}
+use Rattle.assembler.proofs.Places.{still-sum, sizes-five}
 use Rattle.assembler.specs.Assemble.{written, Outcome, assembly}
 use Rattle.assembler.specs.Demand3.{Given, Written, Shortest, Demand3}
 use Rattle.assembler.proofs.Decoded.{stored-small}

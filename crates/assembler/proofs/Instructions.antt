@@ -9,10 +9,10 @@ use Rattle.records.specs.Store.{Store}
 use Rattle.records.specs.Sections.{decode}
 use Rattle.slices.specs.Over.{over}
 use Rattle.layout.specs.Passes.{entry}
-use Rattle.emission.specs.Emission.{codeOf}
-use Rattle.emission.specs.Pushes.{ReferencesHere}
-use Rattle.emission.proofs.Places.{still-sum, sizes-five}
-use Rattle.emission.proofs.Pushes.{references-here}
+use Rattle.assembler.specs.Emission.{codeOf}
+use Rattle.assembler.specs.Pushes.{ReferencesHere}
+use Rattle.assembler.proofs.Places.{still-sum, sizes-five}
+use Rattle.assembler.proofs.Pushes.{references-here}
 use Rattle.assembler.specs.Assemble.{Outcome, isFull, assembly}
 use Rattle.assembler.specs.Instructions.{CodePushes}
 use Rattle.assembler.proofs.Decoded.{stored-small}

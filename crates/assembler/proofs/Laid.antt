@@ -26,9 +26,9 @@ use Rattle.settling.specs.Settle.{Settlement, settlement, settling}
 use Rattle.settling.specs.SectionWalk.{MarksIn}
 use Rattle.settling.proofs.SectionWords.{Words, words-read, marks-in}
 use Rattle.settling.proofs.Sections.{decode-count, decode-at, span-end, Turn, short-test, backward-test}
-use Rattle.emission.specs.Emission.{codeOf}
-use Rattle.emission.proofs.Lengths.{length-code}
-use Rattle.emission.proofs.Places.{settled-still, still-sum}
+use Rattle.assembler.specs.Emission.{codeOf}
+use Rattle.assembler.proofs.Lengths.{length-code}
+use Rattle.assembler.proofs.Places.{settled-still, still-sum}
 use Rattle.assembler.specs.Assemble.{written}
 use Rattle.assembler.specs.Writing.{Writable}
 use Rattle.assembler.proofs.Outcomes.{LaidBy, written-same}

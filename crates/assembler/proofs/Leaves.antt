@@ -11,8 +11,8 @@ use Rattle.records.specs.Sections.{decode}
 use Rattle.slices.specs.Over.{over}
 use Rattle.slices.proofs.Over.{take-over, drop-over, length-over}
 use Rattle.layout.specs.Passes.{entry}
-use Rattle.emission.specs.Emission.{codeOf}
-use Rattle.emission.proofs.Places.{settled-absent}
+use Rattle.assembler.specs.Emission.{codeOf}
+use Rattle.assembler.proofs.Places.{settled-absent}
 use Rattle.assembler.specs.Assemble.{written, Outcome, isFull, assembly}
 use Rattle.assembler.specs.Leaves.{LeftRefused, LeftWritten}
 use Rattle.assembler.proofs.Laid.{laid}

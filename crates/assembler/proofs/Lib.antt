@@ -1,3 +1,7 @@
+pub mod Lengths
+pub mod Rows
+pub mod Places
+pub mod Pushes
 pub mod SectionBytes
 pub mod Writes
 pub mod Decoded

@@ -17,7 +17,7 @@ use Rattle.layout.specs.Passes.{entry}
 use Rattle.layout.specs.Answer.{Laid}
 use Rattle.slices.proofs.Tests.{or-false}
 use Rattle.settling.specs.Settle.{Settlement, settling}
-use Rattle.emission.specs.Emission.{codeOf}
+use Rattle.assembler.specs.Emission.{codeOf}
 use Rattle.assembler.specs.Assemble.{written, Outcome, refusal, isFull, writing, assembly}
 
 -- the settling laid the sections out

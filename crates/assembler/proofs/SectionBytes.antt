@@ -24,7 +24,7 @@ use Rattle.undamaged.specs.Section.{spanBytes, SpanIn, ReadIn}
 use Rattle.undamaged.proofs.Reading.{direct, delta, Reads, is-damaged, is-mark, is-ops, is-data, is-direct, is-delta, reads, mark-read, reference-read}
 use Rattle.undamaged.proofs.Forms.{form-read}
 use Rattle.undamaged.proofs.Sections.{can-read}
-use Rattle.emission.specs.Emission.{referenceBytes, sectionBytes}
+use Rattle.assembler.specs.Emission.{referenceBytes, sectionBytes}
 use Rattle.assembler.specs.Writing.{wordsBytes, formBytes, Writable, WritableReference}
 
 -- ---- a reference by its form

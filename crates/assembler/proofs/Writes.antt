@@ -23,7 +23,7 @@ use Rattle.slices.proofs.Over.{length-over}
 use Rattle.slices.proofs.Tests.{cond-case, and-false}
 use Rattle.layout.specs.Passes.{entry}
 use Rattle.settling.specs.SectionWalk.{backwardWords, valueWords}
-use Rattle.emission.specs.Emission.{opcode, inARow, codeOf}
+use Rattle.assembler.specs.Emission.{opcode, inARow, codeOf}
 use Rattle.slices.proofs.Over.{over-nothing, over-next, over-one}
 use Rattle.assembler.specs.Writing.{Fits, Wrote, wordsBytes, formBytes, WritableReference}
 

@@ -13,7 +13,7 @@ use Rattle.slices.specs.Over.{over}
 use Rattle.layout.specs.Passes.{entry}
 use Rattle.layout.specs.Answer.{Laid}
 use Rattle.settling.specs.Settle.{settling}
-use Rattle.emission.specs.Emission.{codeOf}
+use Rattle.assembler.specs.Emission.{codeOf}
 use Rattle.assembler.specs.declared.Assembled.{Assembled}
 use Rattle.assembler.specs.declared.Assembled.the-variants
 

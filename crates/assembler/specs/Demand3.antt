@@ -18,7 +18,7 @@ use Rattle.layout.specs.Layout.{Layout, inAll, GivesEnough}
 use Rattle.layout.specs.Passes.{entry, settled, narrowAt, settle}
 use Rattle.layout.specs.Conditions.{Never, placed, shortAt, unplacedAt, apartAt, deltaAt, references, passBound}
 use Rattle.layout.specs.Shortest.{SomeLayout}
-use Rattle.emission.specs.Emission.{codeOf, writtenLayout}
+use Rattle.assembler.specs.Emission.{codeOf, writtenLayout}
 use Rattle.layout.specs.Answer.{Laid}
 use Rattle.assembler.specs.Assemble.{written}
 

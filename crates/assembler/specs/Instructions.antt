@@ -6,7 +6,7 @@ use mathlib.Core.List.{List}
 use Rattle.units.specs.Reply.{Reply}
 use Rattle.records.specs.Store.{Store}
 use Rattle.records.specs.Sections.{decode}
-use Rattle.emission.specs.Pushes.{ReferencesHere}
+use Rattle.assembler.specs.Pushes.{ReferencesHere}
 use Rattle.layout.specs.Answer.{Laid}
 use Rattle.assembler.specs.Assemble.{written}
 

@@ -1,3 +1,5 @@
+pub mod Emission
+pub mod Pushes
 pub mod Assemble
 pub mod AssemblyAnswers
 pub mod Leaves

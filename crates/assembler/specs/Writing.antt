@@ -15,7 +15,7 @@ use Rattle.undamaged.specs.Section.{ReadIn}
 use Rattle.slices.specs.Over.{over}
 use Rattle.layout.specs.Passes.{entry}
 use Rattle.settling.specs.SectionWalk.{MarksIn, backwardWords}
-use Rattle.emission.specs.Emission.{opcode, sectionBytes}
+use Rattle.assembler.specs.Emission.{opcode, sectionBytes}
 
 -- there is room in the result for `added` from `at` on
 abbrev pub Fits : List ℕ → ℕ → List ℕ → Type 0

@@ -18,7 +18,7 @@ ghost use Rattle.records.specs.Sections.{decode};
 ghost use Rattle.undamaged.specs.Section.{spanBytes, SpanIn};
 ghost use Rattle.slices.specs.Over.{over};
 ghost use Rattle.layout.specs.Passes.{entry};
-ghost use Rattle.emission.specs.Emission.{opcode, codeOf};
+ghost use Rattle.assembler.specs.Emission.{opcode, codeOf};
 ghost use Rattle.settling.specs.SectionWalk.{valueWords};
 ghost use Rattle.assembler.specs.Writing.{Fits, Wrote, wordsBytes, formBytes, Writable, WritableReference};
 

@@ -18,7 +18,7 @@ use Rattle.calls.specs.Lists.{addedAfter, addedTo, runList}
 use Rattle.layout.specs.Passes.{entry, startFrom, start, walkFrom, pass, passes, settle}
 use Rattle.layout.specs.Conditions.{placed, shortAt, firstShort, unplacedAt, firstUnplaced, someBytes, apartAt, firstApart, backwardAt, firstBackward}
 use Rattle.layout.specs.Answer.{placedApart, tooNarrow as narrowRefusal, backward, Answer, laidOut, noLayout, answer}
-use Rattle.emission.specs.Emission.{referenceBytes, inARow, codeOf}
+use Rattle.assembler.specs.Emission.{referenceBytes, inARow, codeOf}
 
 -- a call that adds a mark, an op byte, data, a reference to a mark, the pushed delta from mark a to mark b
 abbrev pub placing : ℕ → Call

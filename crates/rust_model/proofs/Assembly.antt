@@ -31,8 +31,8 @@ use Rattle.layout.proofs.WidthRule.{widthRule}
 use Rattle.layout.proofs.Walks.{All}
 use Rattle.layout.proofs.Premises.{all-at}
 use Rattle.layout.proofs.Apart.{placed-law}
-use Rattle.emission.specs.Emission.{referenceBytes, sectionBytes, inARow, codeOf}
-use Rattle.emission.proofs.Places.{settled-still}
+use Rattle.assembler.specs.Emission.{referenceBytes, sectionBytes, inARow, codeOf}
+use Rattle.assembler.proofs.Places.{settled-still}
 use Rattle.settling.specs.Settle.{Settlement, settlement, settling}
 use Rattle.assembler.specs.Assemble.{Outcome, written, refusal, assembly}
 use Rattle.assembler.proofs.Decoded.{stored-small}

@@ -21,7 +21,7 @@ use Rattle.slices.proofs.Tests.{cond-true, cond-false}
 use Rattle.layout.specs.Passes.{entry, valueBy}
 use Rattle.layout.specs.Conditions.{sectionAt, refers, backwardBy, backwardAt}
 use Rattle.layout.proofs.Walks.{All}
-use Rattle.emission.specs.Emission.{opcode, referenceBytes, sectionBytes, parts, inARow, codeOf}
+use Rattle.assembler.specs.Emission.{opcode, referenceBytes, sectionBytes, parts, inARow, codeOf}
 use Rattle.units.specs.Reference.{byteCount, isPushZero}
 use Rattle.rust_model.specs.Run.{Run, done, panic, andThen, checkedSub}
 use Rattle.rust_model.specs.Building.{leBytes}

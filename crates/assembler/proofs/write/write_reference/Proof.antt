@@ -9,7 +9,7 @@ use lib.ListN.{length}
 use denote.Ref.{now}
 use Rattle.records.specs.Record.{formOf}
 use Rattle.settling.specs.SectionWalk.{valueWords}
-use Rattle.emission.specs.Emission.{opcode}
+use Rattle.assembler.specs.Emission.{opcode}
 use Rattle.assembler.specs.Writing.{Fits, formBytes}
 use Rattle.assembler.proofs.Writes.{wrote-is, fits-is, reference-zero, reference-long, reference-written, count-four}
 use Rattle.assembler.proofs.write.write_reference.Statement.{statement}

@@ -17,7 +17,7 @@ use Rattle.records.specs.Sections.{Section, mark, ops, bytes, reference}
 use Rattle.layout.specs.Layout.{total}
 use Rattle.layout.specs.Passes.{entry, valueBy, sizeBy}
 use Rattle.layout.specs.Shortest.{settledLayout}
-use Rattle.emission.specs.Emission.{opcode, referenceBytes, sectionBytes, parts, inARow, codeOf, writtenLayout}
+use Rattle.assembler.specs.Emission.{opcode, referenceBytes, sectionBytes, parts, inARow, codeOf, writtenLayout}
 
 -- with its opcode, if pushed, a value has so many bytes
 length-value : (p : Bool) (n v : ℕ) → length (opcode p n ++ bigEndian n v) ≡ n + opBytes p

@@ -36,12 +36,12 @@ use Rattle.layout.proofs.Moves.{Still}
 use Rattle.slices.proofs.Tests.{or-false}
 use Rattle.layout.proofs.Rule.{Sizes}
 use Rattle.layout.proofs.WidthRule.{widthRule, size-holds}
-use Rattle.emission.specs.Emission.{opcode, referenceBytes, sectionBytes, parts, inARow, codeOf}
+use Rattle.assembler.specs.Emission.{opcode, referenceBytes, sectionBytes, parts, inARow, codeOf}
 use Rattle.units.specs.Reference.{byteCount, isPushZero}
-use Rattle.emission.specs.Pushes.{widthOf, placeOf, IsPlace, ValueHere, PushesAt, ReferencesHere}
-use Rattle.emission.proofs.Lengths.{part-lengths}
-use Rattle.emission.proofs.Rows.{row-split}
-use Rattle.emission.proofs.Places.{StillAt, still-at}
+use Rattle.assembler.specs.Pushes.{widthOf, placeOf, IsPlace, ValueHere, PushesAt, ReferencesHere}
+use Rattle.assembler.proofs.Lengths.{part-lengths}
+use Rattle.assembler.proofs.Rows.{row-split}
+use Rattle.assembler.proofs.Places.{StillAt, still-at}
 
 -- ---- the bytes of a pushed reference
 

@@ -9,7 +9,7 @@ use Rattle.units.proofs.BigEndian.{length-bigEndian}
 use Rattle.slices.specs.Over.{over}
 use Rattle.slices.proofs.Over.{over-set}
 use Rattle.layout.specs.Layout.{total}
-use Rattle.emission.specs.Emission.{inARow}
+use Rattle.assembler.specs.Emission.{inARow}
 
 -- the last byte of a number set, and the bytes before it to be written, are the number to be written
 pub over-digit : (old : List ℕ) (i n v : ℕ) → i + n < length old → over (set old (i + n) (v % 256)) i (bigEndian n (v / 256)) ≡ over old i (bigEndian (suc n) v)

@@ -14,7 +14,7 @@ use Rattle.records.specs.Sections.{Section, mark, reference}
 use Rattle.layout.specs.Layout.{total}
 use Rattle.layout.specs.Passes.{entry, valueBy}
 use Rattle.layout.specs.Conditions.{sectionAt, placed}
-use Rattle.emission.specs.Emission.{writtenLayout}
+use Rattle.assembler.specs.Emission.{writtenLayout}
 
 -- the bytes written for section i
 abbrev pub widthOf : List ℕ → List Section → ℕ → ℕ

@@ -1,4 +1,0 @@
-pub mod Lengths
-pub mod Rows
-pub mod Places
-pub mod Pushes
