@@ -3,3 +3,4 @@ pub mod Passes
 pub mod Conditions
 pub mod Shortest
 pub mod Answer
+pub mod Tight
