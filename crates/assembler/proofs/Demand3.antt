@@ -29,7 +29,7 @@ use Rattle.assembler.proofs.Lengths.{written-settled}
 use Rattle.assembler.proofs.Places.{still-sum, sizes-five}
 use Rattle.assembler.specs.Assemble.{written, Outcome, assembly}
 use Rattle.assembler.specs.Demand3.{Given, Written, Shortest, Demand3}
-use Rattle.assembler.proofs.Decoded.{stored-small}
+use Rattle.settling.proofs.Decoded.{stored-small}
 use Rattle.assembler.proofs.Laid.{sound-settles, laid}
 use Rattle.assembler.proofs.Outcomes.{LaidBy, written-same, outcome-refused, outcome-written, fits-law}
 

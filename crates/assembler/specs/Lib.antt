@@ -6,3 +6,4 @@ pub mod Leaves
 pub mod Demand3
 pub mod Instructions
 pub mod Writing
+pub mod TightAssembly

@@ -61,7 +61,8 @@ pub record Decides (ss : List Section) (reply : Reply Laid) : Type 0 where
 -- is at least as long in all.'
 pub record LeastLayout (ss : List Section) (l : Layout) : Type 0 where
   pub enough : GivesEnough ss l
-  pub least : (other : Layout) → GivesEnough ss other → ((m : ℕ) → placed ss m ≡ true → l .offset m ≤ other .offset m) × (inAll l ≤ inAll other)
+  pub least : (other : Layout) → GivesEnough ss other
+      → ((m : ℕ) → placed ss m ≡ true → l .offset m ≤ other .offset m) × (inAll l ≤ inAll other)
 
 -- what a reply and the layout left with it say, whatever A and B are
 pub record SaysLeast (ss : List Section) (reply : Reply Laid) (l : Layout) : Type 0 where
