@@ -1,6 +1,6 @@
 -- What assembly, as defined, answers and leaves: what settling does, as the code fits under the premise and a 13 says nothing of layouts.
 -- Assumes nothing.
-use Prim.Native.Nat.{ℕ, _+_, _≤_}
+use Prim.Native.Nat.{ℕ}
 use native.Mathlib.Omega.{arith}
 use mathlib.Core.Path.{_≡_, refl, sym, ap, _∙_, subst}
 use mathlib.Core.Bool.{Bool, true, false}

@@ -1,2 +1,3 @@
 pub mod Lines
 pub mod TightExamples
+pub mod Line11

@@ -2,11 +2,11 @@
 -- where A + B is at most 1,022 it decides whether there is one. The statements are in specs/Tight. Assumes nothing.
 use Prim.Native.Nat.{ℕ, _+_, _*_, _^_, _≤_, _<_}
 use native.Mathlib.Omega.{arith}
-use mathlib.Core.Path.{_≡_, refl, sym, ap, _∙_, subst}
+use mathlib.Core.Path.{_≡_, refl, sym, subst}
 use mathlib.Core.Logic.{inl, inr}
 use mathlib.Core.List.{List}
 use Rattle.units.specs.Replies as number
-use Rattle.units.specs.Reply.{Reply, accepted, refused}
+use Rattle.units.specs.Reply.{accepted, refused}
 use Rattle.records.specs.Sections.{Section}
 use Rattle.layout.specs.Layout.{Layout, inAll}
 use Rattle.layout.specs.Passes.{Settling, settled, narrowAt, unsettled as unsettledPasses, settle}
