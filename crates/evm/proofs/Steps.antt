@@ -156,17 +156,6 @@ pub runFrom-step : (fuel : ℕ) (code : List ℕ) (at : ℕ) (stack after : List
 unfolding runFrom bind
 runFrom-step fuel code at stack after h e = rw (lt-leb (length code) at h, e)
 
--- a code that is one instruction
-pub run-one : (code stack after : List ℕ)
-    → instructionLength (codeByte code 0) ≡ length code
-    → step code 0 stack ≡ some after
-    → run code stack ≡ some after
-unfolding run instructionLength
-run-one [] stack after l e = absurd (omega arith)
-run-one (op ∷ code) stack after l e =
-    runFrom-step (length code) (op ∷ code) 0 stack after (omega arith) e
-    ∙ runFrom-end (length code) (op ∷ code) (0 + instructionLength op) after (omega arith)
-
 -- ---- exchanged items
 
 -- as many items as before
