@@ -6,13 +6,13 @@ use native.Mathlib.Decide.{ℕ-discrete}
 use mathlib.Core.Path.{_≡_, refl, sym, ap, _∙_, subst}
 use mathlib.Core.Bool.{Bool, true, false, cond, _&&_, and-false, false≢true}
 use mathlib.Core.Logic.{_≢_}
-use mathlib.Core.List.{List, [], _∷_}
+use mathlib.Core.List.{List, _∷_}
 use mathlib.Core.Option.{Option, none, some, bind}
 use lib.ListN.{length, getD, set, length-set}
 use lib.Seq.{getD-set-same, getD-set-other, ext-getD, set-comm}
 use lib.Dec.{leb}
 use borrow.Author.Tests.{le-leb, lt-leb, le-ltb, leb-true}
-use Rattle.evm.specs.YellowPaper.{maxStack, among, isPush, isDup, isSwap, pushSize, instructionLength, Instruction, push, dup, swap, instruction, codeByte, immediate, halts, exchanged, step, runFrom, run, removed, added, effect}
+use Rattle.evm.specs.YellowPaper.{maxStack, among, isPush, isDup, isSwap, pushSize, instructionLength, Instruction, push, dup, swap, instruction, codeByte, immediate, halts, exchanged, step, runFrom, removed, added, effect}
 
 -- ---- opcodes
 

@@ -11,3 +11,4 @@ pub mod Demand3
 pub mod Answers
 pub mod Hand
 pub mod Apart
+pub mod ConditionLaws
