@@ -11,9 +11,10 @@ use Rattle.layout.specs.Passes.{entry}
 use Rattle.layout.specs.Conditions.{sectionAt}
 use Rattle.assembler.specs.Emission.{sectionBytes, codeOf}
 use Rattle.assembler.specs.Pushes.{placeOf}
-use Rattle.assembler.specs.Assemble.{Outcome, assembly}
+use Rattle.assembler.specs.Assemble.{written, Outcome, assembly}
 use Rattle.assembler.specs.Copies.{StandsAt, CopiesHere, CodeCopies}
-use Rattle.assembler.proofs.Outcomes.{outcome-cases, fits-law}
+use Rattle.assembler.proofs.Outcomes.{written-same, outcome-cases, fits-law}
+use Rattle.assembler.proofs.Laid.{laid}
 use Rattle.assembler.proofs.Pushes.{part-stands}
 
 -- a part of bytes that stand in a code stands behind what is before it in them
@@ -47,3 +48,15 @@ assembly-copies w st n result position =
     outcome-cases w st n result position (λ (o : Outcome). CodeCopies w st position (o .reply) (o .table) (o .result))
     (λ number i k s q h. let z : _≡_ {A = ℕ} 0 1 = cc in absurd (omega arith))
     (λ table size k e f s q h. copies-here (decode w st) table result position (omega (arith, fits-law (length result) position size .0 f)))
+
+-- the length answered is the code's, by the table that is left
+pub assembly-length : (w : ℕ) (st : Store) (n : ℕ) (result : List ℕ) (position size passes : ℕ)
+    → assembly w st n result position .reply ≡ written size passes
+    → length (codeOf (entry (assembly w st n result position .table)) (decode w st)) ≡ size
+assembly-length w st n result position =
+    outcome-cases w st n result position Long
+    (λ number i k s q h. let z : _≡_ {A = ℕ} 0 1 = cc in absurd (omega arith))
+    (λ table size k e f s q h. laid w n st table size k e .codeLong ∙ written-same h .0)
+  where
+    Long : Outcome → Type 0
+    Long o = (size passes : ℕ) → o .reply ≡ written size passes → length (codeOf (entry (o .table)) (decode w st)) ≡ size
