@@ -13,4 +13,3 @@ pub mod Copies
 pub mod AssemblyAnswers
 pub mod Assembles
 pub mod Leaves
-pub mod Hand
