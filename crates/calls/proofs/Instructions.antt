@@ -124,83 +124,60 @@ pub exchanged-items : (i j : ℕ) (stack : List ℕ)
 exchanged-items i j stack hi hj =
     (length-exchanged i j stack, exchanged-first i j stack hi hj, exchanged-second i j stack hj, (λ k ni nj. exchanged-other i j k stack ni nj))
 
--- SWAP of depth d exchanges the top and the item at depth d, wherever in a code it stands, and the instruction after it is next
-pub swap-anywhere : (before after : List ℕ) (d : ℕ) (stack : List ℕ)
-    → 1 ≤ d
-    → d ≤ 16
-    → d < length stack
-    → length stack ≤ maxStack
-    → steps 1 (before ++ (swapOp d ∷ after)) (stateAt (length before) stack) ≡ some (stateAt (length before + 1) (exchanged 0 d stack))
-swap-anywhere before after d stack l u deep fits =
-    swap-at (before ++ (swapOp d ∷ after)) (length before) d stack (getD-append-seam before (swapOp d) after 0) l u deep fits
+module _ (d : ℕ) (stack : List ℕ) (l : 1 ≤ d) (u : d ≤ 16) (deep : d < length stack) (fits : length stack ≤ maxStack) where
+  -- SWAP of depth d exchanges the top and the item at depth d, wherever in a code it stands, and the instruction after it is next
+  pub swap-anywhere : (before after : List ℕ)
+      → steps 1 (before ++ (swapOp d ∷ after)) (stateAt (length before) stack) ≡ some (stateAt (length before + 1) (exchanged 0 d stack))
+  swap-anywhere before after =
+      swap-at (before ++ (swapOp d ∷ after)) (length before) d stack (getD-append-seam before (swapOp d) after 0) l u deep fits
 
--- DUP of depth d pushes the item at depth d, wherever in a code it stands, and the instruction after it is next
-pub dup-anywhere : (before after : List ℕ) (d : ℕ) (stack : List ℕ)
-    → d ≤ 15
-    → d < length stack
-    → length stack < maxStack
-    → steps 1 (before ++ (dupOp d ∷ after)) (stateAt (length before) stack) ≡ some (stateAt (length before + 1) (getD stack d 0 ∷ stack))
-dup-anywhere before after d stack u deep room =
-    let code : List ℕ = before ++ (dupOp d ∷ after) in
-    let here : codeByte code (length before) ≡ dupOp d = getD-append-seam before (dupOp d) after 0 in
-    steps-one code (length before) stack (getD stack d 0 ∷ stack) 1
-    (ap instructionLength here ∙ instructionLength-above (dupOp d) (omega arith))
-    (step-dup code (length before) stack (d + 1) (ap instruction here ∙ instruction-dup d u) (omega arith) room
-    ∙ ap (λ (k : ℕ). some (getD stack k 0 ∷ stack)) (omega arith))
+  -- so as a code of its own
+  pub swap-run : run (swapOp d ∷ []) stack ≡ some (exchanged 0 d stack)
+  swap-run = steps-run 1 (swapOp d ∷ []) stack (exchanged 0 d stack) (swap-anywhere [] [])
 
--- exchange of n and m exchanges the items at depths n and m, wherever in a code its bytes stand, and the instruction after them is next
-pub exchange-anywhere : (before after : List ℕ) (n m : ℕ) (stack : List ℕ)
-    → n ≢ m
-    → n ≤ 16
-    → m ≤ 16
-    → n < length stack
-    → m < length stack
-    → length stack ≤ maxStack
-    → steps (length (exchangeOps n m)) (before ++ (exchangeOps n m ++ after)) (stateAt (length before) stack)
-    ≡ some (stateAt (length before + length (exchangeOps n m)) (exchanged n m stack))
-exchange-anywhere before after n m stack nm hn hm ln lm fits = go (ℕ-discrete n 0) (ℕ-discrete m 0)
-  where
-    three : List ℕ
-    three = swapOp n ∷ swapOp m ∷ swapOp n ∷ after
+module _ (d : ℕ) (stack : List ℕ) (u : d ≤ 15) (deep : d < length stack) (room : length stack < maxStack) where
+  -- DUP of depth d pushes the item at depth d, wherever in a code it stands, and the instruction after it is next
+  pub dup-anywhere : (before after : List ℕ)
+      → steps 1 (before ++ (dupOp d ∷ after)) (stateAt (length before) stack) ≡ some (stateAt (length before + 1) (getD stack d 0 ∷ stack))
+  dup-anywhere before after =
+      let code : List ℕ = before ++ (dupOp d ∷ after) in
+      let here : codeByte code (length before) ≡ dupOp d = getD-append-seam before (dupOp d) after 0 in
+      steps-one code (length before) stack (getD stack d 0 ∷ stack) 1
+      (ap instructionLength here ∙ instructionLength-above (dupOp d) (omega arith))
+      (step-dup code (length before) stack (d + 1) (ap instruction here ∙ instruction-dup d u) (omega arith) room
+      ∙ ap (λ (k : ℕ). some (getD stack k 0 ∷ stack)) (omega arith))
 
-    go : Dec (n ≡ 0) → Dec (m ≡ 0)
-        → steps (length (exchangeOps n m)) (before ++ (exchangeOps n m ++ after)) (stateAt (length before) stack)
-        ≡ some (stateAt (length before + length (exchangeOps n m)) (exchanged n m stack))
-    go (yes z) d = rw (z, exchangeOps-first m) (swap-anywhere before after m stack (omega arith) hm lm fits)
-    go (no n0) (yes z) =
-        rw (z, exchangeOps-second n n0, exchanged-comm n 0 stack n0) (swap-anywhere before after n stack (omega arith) hn ln fits)
-    go (no n0) (no m0) =
-        rw (exchangeOps-neither n m n0 m0)
-        (three-at (before ++ three) (length before) n m stack (getD-append-seam before (swapOp n) (swapOp m ∷ swapOp n ∷ after) 0)
-        (getD-append-add before three 1 0) (getD-append-add before three 2 0) n0 m0 nm hn hm ln lm fits)
+  -- so as a code of its own
+  pub dup-run : run (dupOp d ∷ []) stack ≡ some (getD stack d 0 ∷ stack)
+  dup-run = steps-run 1 (dupOp d ∷ []) stack (getD stack d 0 ∷ stack) (dup-anywhere [] [])
 
--- so as a code of their own
-pub swap-run : (d : ℕ) (stack : List ℕ)
-    → 1 ≤ d
-    → d ≤ 16
-    → d < length stack
-    → length stack ≤ maxStack
-    → run (swapOp d ∷ []) stack ≡ some (exchanged 0 d stack)
-swap-run d stack l u deep fits = steps-run 1 (swapOp d ∷ []) stack (exchanged 0 d stack) (swap-anywhere [] [] d stack l u deep fits)
+module _ (n m : ℕ) (stack : List ℕ) (nm : n ≢ m) (hn : n ≤ 16) (hm : m ≤ 16) (ln : n < length stack) (lm : m < length stack)
+    (fits : length stack ≤ maxStack) where
+  -- exchange of n and m exchanges the items at depths n and m, wherever in a code its bytes stand, and the instruction after them is next
+  pub exchange-anywhere : (before after : List ℕ)
+      → steps (length (exchangeOps n m)) (before ++ (exchangeOps n m ++ after)) (stateAt (length before) stack)
+      ≡ some (stateAt (length before + length (exchangeOps n m)) (exchanged n m stack))
+  exchange-anywhere before after = go (ℕ-discrete n 0) (ℕ-discrete m 0)
+    where
+      three : List ℕ
+      three = swapOp n ∷ swapOp m ∷ swapOp n ∷ after
 
-pub dup-run : (d : ℕ) (stack : List ℕ)
-    → d ≤ 15
-    → d < length stack
-    → length stack < maxStack
-    → run (dupOp d ∷ []) stack ≡ some (getD stack d 0 ∷ stack)
-dup-run d stack u deep room = steps-run 1 (dupOp d ∷ []) stack (getD stack d 0 ∷ stack) (dup-anywhere [] [] d stack u deep room)
+      go : Dec (n ≡ 0) → Dec (m ≡ 0)
+          → steps (length (exchangeOps n m)) (before ++ (exchangeOps n m ++ after)) (stateAt (length before) stack)
+          ≡ some (stateAt (length before + length (exchangeOps n m)) (exchanged n m stack))
+      go (yes z) d = rw (z, exchangeOps-first m) (swap-anywhere m stack (omega arith) hm lm fits before after)
+      go (no n0) (yes z) =
+          rw (z, exchangeOps-second n n0, exchanged-comm n 0 stack n0) (swap-anywhere n stack (omega arith) hn ln fits before after)
+      go (no n0) (no m0) =
+          rw (exchangeOps-neither n m n0 m0)
+          (three-at (before ++ three) (length before) n m stack (getD-append-seam before (swapOp n) (swapOp m ∷ swapOp n ∷ after) 0)
+          (getD-append-add before three 1 0) (getD-append-add before three 2 0) n0 m0 nm hn hm ln lm fits)
 
-pub exchange-run : (n m : ℕ) (stack : List ℕ)
-    → n ≢ m
-    → n ≤ 16
-    → m ≤ 16
-    → n < length stack
-    → m < length stack
-    → length stack ≤ maxStack
-    → run (exchangeOps n m) stack ≡ some (exchanged n m stack)
-exchange-run n m stack nm hn hm ln lm fits =
-    let ops : List ℕ = exchangeOps n m in
-    steps-run (length ops) ops stack (exchanged n m stack)
-    (ap (λ (c : List ℕ). steps (length ops) c (stateAt 0 stack)) (sym (append-nil ops))
-    ∙ exchange-anywhere [] [] n m stack nm hn hm ln lm fits
-    ∙ ap (λ (k : ℕ). some (stateAt k (exchanged n m stack))) (omega arith))
+  -- so as a code of their own
+  pub exchange-run : run (exchangeOps n m) stack ≡ some (exchanged n m stack)
+  exchange-run =
+      let ops : List ℕ = exchangeOps n m in
+      steps-run (length ops) ops stack (exchanged n m stack)
+      (ap (λ (c : List ℕ). steps (length ops) c (stateAt 0 stack)) (sym (append-nil ops))
+      ∙ exchange-anywhere [] []
+      ∙ ap (λ (k : ℕ). some (stateAt k (exchanged n m stack))) (omega arith))

@@ -53,7 +53,7 @@ stands-exchanges : (code : List ℕ) (at n m : ℕ) (stack : List ℕ) → Excha
 stands-exchanges code at n m stack q (before, after, e, l) =
     subst (λ (c : List ℕ). ExchangesAt c at n m stack) (sym e)
     (subst (λ (k : ℕ). ExchangesAt (before ++ (exchangeOps n m ++ after)) k n m stack) l
-    (exchange-anywhere before after n m stack (q .differ) (q .first) (q .second) (q .firstDeep) (q .secondDeep) (q .fits)))
+    (exchange-anywhere n m stack (q .differ) (q .first) (q .second) (q .firstDeep) (q .secondDeep) (q .fits) before after))
 
 module _ (w : ℕ) (st : Store) (marks : ℕ) (result : List ℕ) (position size passes : ℕ)
     (answer : assembly w st marks result position .reply ≡ written size passes) where
