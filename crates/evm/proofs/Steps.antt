@@ -4,7 +4,7 @@ use Prim.Native.Nat.{ℕ, zero, suc, _+_, _-_, _≤_, _<_}
 use native.Mathlib.Omega.{arith}
 use native.Mathlib.Decide.{ℕ-discrete}
 use mathlib.Core.Path.{_≡_, refl, sym, ap, _∙_, subst}
-use mathlib.Core.Bool.{Bool, true, false, cond, _&&_, and-false, false≢true}
+use mathlib.Core.Bool.{Bool, true, false, cond, and-false, and-eq-true-iff}
 use mathlib.Core.Logic.{_≢_}
 use mathlib.Core.List.{List, _∷_}
 use mathlib.Core.Option.{Option, none, some, bind}
@@ -34,16 +34,11 @@ pub pushSize-push : (n : ℕ) → n ≤ 32 → pushSize (0x5f + n) ≡ n
 unfolding pushSize
 pushSize-push n h = rw (isPush-push n h) (omega arith)
 
--- the second of two tests that both hold
-and-second : (a b : Bool) → (a && b) ≡ true → b ≡ true
-and-second true b e = e
-and-second false b e = absurd (false≢true e)
-
 -- no push has more than 32 bytes of immediate
 pub pushSize-le : (op : ℕ) → isPush op ≡ true → pushSize op ≤ 32
 unfolding pushSize isPush
 pushSize-le op e =
-    let h : op ≤ 0x7f = leb-true op 0x7f (and-second (leb 0x5f op) (leb op 0x7f) e) in
+    let h : op ≤ 0x7f = leb-true op 0x7f (and-eq-true-iff (leb 0x5f op) (leb op 0x7f) .0 e .1) in
     rw e (omega arith)
 
 -- an opcode above 0x7f is no push

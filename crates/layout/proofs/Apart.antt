@@ -3,7 +3,7 @@
 use Prim.Native.Nat.{ℕ, zero, suc, _+_, _≤_, _<_, suc-le-suc}
 use native.Mathlib.Omega.{arith}
 use mathlib.Core.Path.{_≡_, refl, sym, _∙_, ap}
-use mathlib.Core.Bool.{Bool, true, false, _&&_, _||_, false≢true}
+use mathlib.Core.Bool.{Bool, true, false, _&&_, _||_, false≢true, and-eq-true-iff}
 use mathlib.Core.Logic.{_↔_}
 use mathlib.Core.List.{List, [], _∷_, _++_}
 use lib.Dec.{eqb, ltb}
@@ -114,11 +114,6 @@ between-sums ss m j i l k e = some-bytes (slice (suc j) i ss) ∙ go (ltb 0 betw
     go true h = h ∙ sym (lt-ltb (leastBefore ss j) (leastBefore ss i) (omega (arith, ltb-true 0 between h, least-between ss m j i l k e)))
     go false h = h ∙ sym (le-ltb (leastBefore ss j) (leastBefore ss i) (omega (arith, ltb-false 0 between h, least-between ss m j i l k e)))
 
--- both of two tests hold
-and-both : (a b : Bool) → (a && b) ≡ true → (a ≡ true) × (b ≡ true)
-and-both true b h = (refl, h)
-and-both false b h = absurd (false≢true h)
-
 -- section i is a mark, an earlier section is that mark, and bytes stand between them
 abbrev pub Parted : List Section → ℕ → Type 0
 Parted ss i = (m : ℕ) × (j : ℕ) × (sectionAt ss i ≡ mark m) × (j < i) × (sectionAt ss j ≡ mark m) × (bytesBetween ss j i ≡ true)
@@ -135,7 +130,7 @@ apart-parted ss i = (there (sectionAt ss i) refl, back)
     there : (x : Section) → sectionAt ss i ≡ x → placesSome (λ m. someBelow i (parted ss i m)) x ≡ true → Parted ss i
     there (mark m) e h =
         let q = some-below i (parted ss i m) .0 h in
-        let both = and-both (placesSome (eqb m) (sectionAt ss (q .0))) (bytesBetween ss (q .0) i) (q .2) in
+        let both = and-eq-true-iff (placesSome (eqb m) (sectionAt ss (q .0))) (bytesBetween ss (q .0) i) .0 (q .2) in
         (m, q .0, e, q .1, places-mark m (sectionAt ss (q .0)) (both .0), both .1)
     there (ops bs) e h = absurd (false≢true h)
     there (bytes bs) e h = absurd (false≢true h)
