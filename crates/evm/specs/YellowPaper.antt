@@ -118,3 +118,20 @@ runFrom (suc fuel) code at stack =
 -- from the first instruction to the code's end, where the machine stops: each takes a byte or more, so the code's length is fuel enough
 unfoldable pub run : List ℕ → List ℕ → Option (List ℕ)
 run code stack = runFrom (length code) code 0 stack
+
+-- ---- one instruction after another
+
+-- of the machine state: the program counter and the stack
+pub record State : Type 0 where
+  pub pc : ℕ
+  pub stack : List ℕ
+
+abbrev pub stateAt : ℕ → List ℕ → State
+stateAt pc stack = record { pc = pc; stack = stack }
+
+-- n instructions from a state on, each where the one before it ends: the state after them, `none` if one halts or isn't described here
+unfoldable pub steps : ℕ → List ℕ → State → Option State
+steps zero code μ = some μ
+steps (suc n) code μ =
+    bind (step code (μ .pc) (μ .stack))
+    (λ after. steps n code (stateAt (μ .pc + instructionLength (codeByte code (μ .pc))) after))

@@ -1,1 +1,4 @@
 pub mod Lines
+pub mod Lists
+pub mod Shortest
+pub mod Exchanges

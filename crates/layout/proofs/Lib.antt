@@ -9,5 +9,5 @@ pub mod Premises
 pub mod Settles
 pub mod Demand3
 pub mod Answers
-pub mod Hand
 pub mod Apart
+pub mod ConditionLaws

@@ -1,5 +1,6 @@
 pub mod Layout
 pub mod Passes
 pub mod Conditions
+pub mod ConditionLaws
 pub mod Shortest
 pub mod Answer
