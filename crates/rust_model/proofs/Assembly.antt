@@ -1,5 +1,5 @@
 -- The Rust's `assemble` against ours: what each comes to, over an undamaged store that decodes to the Rust's list. Assumes nothing.
-use Prim.Native.Nat.{ℕ, zero, suc, _+_, _*_, _≤_, _<_}
+use Prim.Native.Nat.{ℕ, zero, suc, _+_, _≤_, _<_}
 use native.Mathlib.Omega.{arith}
 use mathlib.Core.Path.{_≡_, refl, sym, ap, _∙_, subst}
 use mathlib.Core.Bool.{Bool, true, false, not, _||_}
@@ -18,8 +18,8 @@ use Rattle.records.specs.Sections.{Section, mark, ops, bytes, reference, decode
 use Rattle.slices.specs.Over.{over}
 use Rattle.undamaged.specs.View.{Undamaged}
 use Rattle.undamaged.proofs.Soundness.{undamaged-iff}
-use Rattle.layout.specs.Passes.{entry, valueBy, Settling, settled, narrowAt, unsettled, settle}
-use Rattle.layout.specs.Conditions.{sectionAt, IsFirst, Never, placesSome, someMark, namesSome, refers, placed, shortAt, unplacedAt, apartAt, backwardBy, backwardAt}
+use Rattle.layout.specs.Passes.{entry, Settling, settled, narrowAt, unsettled, settle}
+use Rattle.layout.specs.Conditions.{sectionAt, IsFirst, Never, placesSome, someMark, namesSome, refers, placed, shortAt, unplacedAt, backwardBy, backwardAt}
 use Rattle.layout.specs.Answer.{LayoutRefusal, laidOut, noLayout, layoutNumbers, Answer, answer, Says}
 use Rattle.layout.specs.Answer as layout
 use Rattle.layout.proofs.Answers.{settle-law, answer-law}
@@ -34,19 +34,19 @@ use Rattle.layout.proofs.Apart.{placed-law}
 use Rattle.assembler.specs.Emission.{referenceBytes, sectionBytes, inARow, codeOf}
 use Rattle.assembler.proofs.Places.{settled-still}
 use Rattle.settling.specs.Settle.{Settlement, settlement, settling}
-use Rattle.assembler.specs.Assemble.{Outcome, written, refusal, assembly}
+use Rattle.assembler.specs.Assemble.{Outcome, written, assembly}
 use Rattle.assembler.proofs.Decoded.{stored-small}
 use Rattle.assembler.proofs.Laid.{sound-settles, laid}
 use Rattle.assembler.proofs.Outcomes.{LaidBy, outcome-refused, outcome-written, fits-law}
-use Rattle.rust_model.specs.Run.{Run, done, panic, andThen, Build, index}
+use Rattle.rust_model.specs.Run.{Run, done, panic, andThen, Build}
 use Rattle.rust_model.specs.Building.{Assembler}
 use Rattle.rust_model.specs.Sections.{AsmSection, Mark, Ops, Data, MarkRef, iterSections}
-use Rattle.rust_model.specs.Assemble.{Converged, ok, refHasTooSmallSetSize, converge, Assembled, assembled, tooSmallSetSize, emitFrom, emission, assemble}
-use Rattle.rust_model.specs.Demand2.{seen, sectionsOf, Assembles, SameCode, SameSection, SameAssembly}
+use Rattle.rust_model.specs.Assemble.{Converged, ok, refHasTooSmallSetSize, assembled, emitFrom, emission, assemble}
+use Rattle.rust_model.specs.Demand2.{seen, sectionsOf, Assembles, SameAssembly}
 use Rattle.rust_model.proofs.Spans.{Spans}
 use Rattle.rust_model.proofs.Steps.{index-done, MarksIn}
 use Rattle.rust_model.proofs.Offsets.{EveryMap, need, rustSettling, converge-same}
-use Rattle.rust_model.proofs.Lent.{AlikeAt, Alike, Uses, value-alike, SameSettling, uses-placed, settle-alike}
+use Rattle.rust_model.proofs.Lent.{Alike, Uses, value-alike, SameSettling, uses-placed, settle-alike}
 use Rattle.rust_model.proofs.Emission.{Ready, emit-same, emit-panic}
 
 -- ---- marks within a table, from marks that are placed

@@ -4,8 +4,8 @@ use Prim.Native.Nat.{ℕ}
 use Rattle.calls.specs.Calls.{Call}
 use Rattle.rust_model.specs.Run.{Build}
 use Rattle.rust_model.specs.Building.{Assembler}
-use Rattle.rust_model.specs.Demand2.{Builds, built, Demand2}
-use Rattle.rust_model.proofs.Building.{calls-same}
+use Rattle.rust_model.specs.Demand2.{Builds, built, Demand2, SameAcceptance}
+use Rattle.rust_model.proofs.Building.{calls-same, calls-stored}
 use Rattle.rust_model.proofs.Assembly.{assembly-same}
 use Rattle.rust_model.proofs.Listing.{listing-same}
 
@@ -17,3 +17,6 @@ demand-2 build bs words cs a given =
       assembly = λ lent own premises before result position. assembly-same build a (built bs words cs) (same .1) (same .2) (same .0 .decoded) lent own premises before result position;
       listing = listing-same a (built bs words cs) (same .1) (same .2) (same .0 .decoded);
     }
+
+pub same-acceptance : (build : Build) (bs words : List ℕ) (cs : List Call) → SameAcceptance build bs words cs
+same-acceptance build bs words cs = (λ given. calls-same build bs words cs (given .0) (given .1) .0 .accepted, calls-stored build bs words cs)

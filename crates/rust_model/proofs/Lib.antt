@@ -1,3 +1,4 @@
+pub mod AnswersComputed
 pub mod Spans
 pub mod Runs
 pub mod Minimal
@@ -6,6 +7,7 @@ pub mod Adds
 pub mod Last
 pub mod Bytes
 pub mod Pushes
+pub mod Converse
 pub mod Building
 pub mod Steps
 pub mod Offsets

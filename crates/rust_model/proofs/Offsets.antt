@@ -1,5 +1,5 @@
 -- `converge_mark_offsets` against the settling: by a table of the same length the two are the same, step by step. Assumes nothing.
-use Prim.Native.Nat.{ℕ, zero, suc, _+_, _*_, _≤_, _<_}
+use Prim.Native.Nat.{ℕ, zero, suc, _+_, _*_, _<_}
 use native.Mathlib.Nat.{add-zero}
 use native.Mathlib.Omega.{arith}
 use mathlib.Core.Path.{_≡_, refl, sym, ap, _∙_, subst}
@@ -11,7 +11,6 @@ use lib.ListN.{length, set, replicate, length-set, length-replicate}
 use lib.Seq.{slice}
 use Rattle.units.specs.Reference.{leastSize, size, tooNarrow}
 use Rattle.units.specs.declared.AsmReference.{AsmReference}
-use Rattle.units.specs.Replies.{maxPasses}
 use Rattle.records.specs.Sections.{Section, mark, ops, bytes, reference}
 use Rattle.layout.specs.Passes.{entry, valueBy, startFrom, start, Walked, through, leftAt, unlike, walkFrom, pass, Settling, settled, narrowAt, unsettled, ended, passes, settle}
 use Rattle.layout.specs.Conditions.{sumOf, storedBytes, references}
@@ -19,10 +18,10 @@ use Rattle.slices.proofs.Tests.{cond-case}
 use Rattle.settling.proofs.Sections.{size-small, least-small}
 use Rattle.rust_model.specs.Run.{Run, done, panic, andThen, Build, addU32, indexMut}
 use Rattle.rust_model.specs.Sections.{AsmSection, Mark, Ops, Data, MarkRef, minCompiledSize, compiledSize, refSizeFor, bytesToHold}
-use Rattle.rust_model.specs.Assemble.{startMark, Walk, walked, tooSmall, moveMark, walkMark, orTooSmall, Converged, ok, refHasTooSmallSetSize, decide, afterWalk, iterate, converge}
+use Rattle.rust_model.specs.Assemble.{startMark, Walk, walked, tooSmall, moveMark, walkMark, orTooSmall, Converged, ok, refHasTooSmallSetSize, afterWalk, iterate, converge}
 use Rattle.rust_model.specs.Assemble as rust
 use Rattle.rust_model.specs.Demand2.{seen}
-use Rattle.rust_model.proofs.Spans.{SectionIn, EveryIn}
+use Rattle.rust_model.proofs.Spans.{EveryIn}
 use Rattle.rust_model.proofs.Steps.{add-done, index-done, set-done, span-done, min-same, ref-size-same, MarksIn, value-done}
 
 -- ---- what the walks need

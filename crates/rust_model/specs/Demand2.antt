@@ -5,7 +5,7 @@
 use Prim.Native.Nat.{ℕ, _+_, _*_, _≤_, _<_}
 use mathlib.Core.Path.{_≡_}
 use mathlib.Core.Bool.{true, false}
-use mathlib.Core.Logic.{_⊎_}
+use mathlib.Core.Logic.{_⊎_, _↔_}
 use mathlib.Core.List.{List, [], _∷_, _++_, map}
 use lib.ListN.{length, drop}
 use lib.Seq.{slice}
@@ -133,3 +133,9 @@ pub record Demand2 (build : Build) (bs words : List ℕ) (cs : List Call) (a : A
       → SameAssembly a before result position
       (assembly wordsPerSection (built bs words cs) lent result position) (assemble build own a before)
   pub listing : SameListing a (built bs words cs)
+
+-- our calls are all accepted exactly where the Rust's don't panic, limits hold and the two slices are long enough. So no building call of
+-- the Rust, as it is defined here, panics where ours is accepted, and `Demand2` holds of every list that ours accepts.
+abbrev pub SameAcceptance : Build → List ℕ → List ℕ → List Call → Type 0
+SameAcceptance build bs words cs =
+    ((a : Assembler) × Builds build bs words cs a) ↔ EveryStored (runReplies wordsPerSection cs (opened bs words))
