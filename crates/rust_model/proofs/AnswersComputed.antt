@@ -1,5 +1,5 @@
--- What the Rust's definition computes, without a theorem: sums and differences that wrap round, its debug assertion, the answers to
--- lines 7, 8 and 12 of 01's layouts tried by hand, and a reference behind a mark that moves. Assumes nothing.
+-- What the Rust's definition computes, without a theorem: sums and differences that wrap round, its debug assertion, single calls and
+-- steps, the answers to lines 7, 8 and 12 of 01's layouts tried by hand, and a reference behind a mark that moves. Assumes nothing.
 use Prim.Native.Nat.{ℕ}
 use mathlib.Core.Path.{_≡_, refl}
 use mathlib.Core.Bool.{Bool, true, false}
@@ -10,8 +10,9 @@ use Rattle.units.specs.declared.SetSize.{SetSize}
 use Rattle.units.specs.declared.SetSize.the-variants.{Unsized, Sized}
 use Rattle.opcodes.specs.Text.{asBytes}
 use Rattle.opcodes.specs.Names.{opName, lookup, opNames}
-use Rattle.rust_model.specs.Run.{done, panic, Build, addU32, subU32, checkedSub, index, indexMut, range, lenIdx}
-use Rattle.rust_model.specs.Building.{StoredAsmSection, Mark, Ops, Data, DirectMarkRef, Size2RawDeltaRef, Assembler, leBytes, longerData, extendData}
+use Rattle.rust_model.specs.Run.{done, panic, Build, addU32, subU32, checkedSub, index, indexMut, range, lenIdx, pushed}
+use Rattle.rust_model.specs.Building.{StoredAsmSection, Mark, Ops, Data, DirectMarkRef, Size2RawDeltaRef, Assembler, empty, lastOf, lastMut, extendOps, newOps, opByte, opBytes, swapOp, swap, exchange, bits, leadingZeros, leBytes, pushOp, minimal, longerData, extendData}
+use Rattle.rust_model.specs.Building
 use Rattle.rust_model.specs.Sections.{bytesToHold, saturatingSub}
 use Rattle.rust_model.specs.Assemble.{startFrom, walkFrom, iterate, converge, emitBytes, emitRef, emitFrom, assembled, tooSmallSetSize, assemble}
 use Rattle.rust_model.specs.Display.{pushSize, hexDigit, hexBytes, digitsBefore, displayed, pushLine, fmtOpsFrom, fmtOps, fmtMarkRef, markLine, dataLine, textFrom, writeAsm}
@@ -53,6 +54,32 @@ extended-data : (checks : Bool)
     ≡ done (record { bytes = 0xaa ∷ []; sections = Data (record { start = 0; end = 1 }) ∷ [] })
 unfolding extendData longerData lenIdx
 extended-data checks = refl
+
+-- ---- single calls and steps
+
+-- an exchange of 1 and 2: SWAP1, SWAP2, SWAP1
+rust-exchange : exchange empty 1 2 ≡ done (record { bytes = 0x90 ∷ 0x91 ∷ 0x90 ∷ []; sections = Ops (record { start = 0; end = 3 }) ∷ [] })
+unfolding exchange swap swapOp opByte lastMut lastOf newOps extendOps lenIdx pushed
+rust-exchange = refl
+
+-- 258 in two bytes, the highest first
+rust-minimal : minimal empty 0x0102 ≡ done (record { bytes = 0x61 ∷ 0x01 ∷ 0x02 ∷ []; sections = Ops (record { start = 0; end = 3 }) ∷ [] })
+unfolding minimal pushOp Building.pushSize leadingZeros bits leBytes opBytes opByte lastMut lastOf newOps extendOps lenIdx pushed
+rust-minimal = refl
+
+-- `saturating_sub`, while offsets converge
+rust-saturated : saturatingSub 3 5 ≡ 0
+unfolding saturatingSub
+rust-saturated = refl
+
+-- a raw reference of value 0 is a byte 00, a pushed one PUSH0
+rust-raw-zero : emitRef Unsized false 0 ≡ done (0x00 ∷ [])
+unfolding emitRef emitBytes bytesToHold leBytes
+rust-raw-zero = refl
+
+rust-pushed-zero : emitRef Unsized true 0 ≡ done (0x5f ∷ [])
+unfolding emitRef
+rust-pushed-zero = refl
 
 -- ---- lines 7 and 8: a pushed reference, 254 bytes of data, the mark
 
