@@ -1,9 +1,11 @@
 -- What the Rust's definition computes, without a theorem: sums and differences that wrap round, its debug assertion, single calls and
 -- steps, the answers to lines 7, 8 and 12 of 01's layouts tried by hand, and a reference behind a mark that moves. Assumes nothing.
-use Prim.Native.Nat.{ℕ}
+use Prim.Native.Nat.{ℕ, zero, suc, _+_, _*_, max}
+use native.Mathlib.Omega.{arith}
 use mathlib.Core.Path.{_≡_, refl}
 use mathlib.Core.Bool.{Bool, true, false}
 use mathlib.Core.List.{List, [], _∷_, _++_}
+use mathlib.Core.Option.{none, some}
 use lib.ListN.{replicate}
 use Rattle.units.specs.declared.RefSize.the-variants.{S1}
 use Rattle.units.specs.declared.SetSize.{SetSize}
@@ -14,7 +16,7 @@ use Rattle.rust_model.specs.Run.{done, panic, Build, addU32, subU32, che
 use Rattle.rust_model.specs.Building.{StoredAsmSection, Mark, Ops, Data, DirectMarkRef, Size2RawDeltaRef, Assembler, empty, lastOf, lastMut, extendOps, newOps, opByte, opBytes, swapOp, swap, exchange, bits, leadingZeros, leBytes, pushOp, minimal, longerData, extendData}
 use Rattle.rust_model.specs.Building
 use Rattle.rust_model.specs.Sections.{bytesToHold, saturatingSub}
-use Rattle.rust_model.specs.Assemble.{startFrom, walkFrom, iterate, converge, emitBytes, emitRef, emitFrom, assembled, tooSmallSetSize, assemble}
+use Rattle.rust_model.specs.Assemble.{Reserve, Reserves, resize, grow, startFrom, walkFrom, iterate, converge, emitBytes, emitRef, emitFrom, assembled, tooSmallSetSize, assemble}
 use Rattle.rust_model.specs.Display.{pushSize, hexDigit, hexBytes, digitsBefore, displayed, pushLine, fmtOpsFrom, fmtOps, fmtMarkRef, markLine, dataLine, textFrom, writeAsm}
 
 -- ---- the two switches
@@ -81,6 +83,27 @@ rust-pushed-zero : emitRef Unsized true 0 ≡ done (0x5f ∷ [])
 unfolding emitRef
 rust-pushed-zero = refl
 
+-- ---- a table that grows as the standard vector does: to what is asked for, twice what it had or 4, whichever is most
+
+abbrev pub doubling : Reserve
+doubling len zero = len
+doubling len (suc more) = max (max (len + suc more) (2 * len)) 4
+
+pub doubling-reserves : Reserves doubling
+doubling-reserves len zero = omega arith
+doubling-reserves len (suc more) = omega arith
+
+-- mark 128: the table then has 256 entries
+rust-grown : (build : Build) → assemble build doubling none (record { bytes = []; sections = Mark 128 ∷ [] }) [] ≡ done (assembled (replicate 256 0) [])
+unfolding assemble converge grow resize startFrom walkFrom iterate emitFrom index indexMut addU32 saturatingSub
+rust-grown build = refl
+
+-- hint 0, then marks 0 and 4: it grows to 4 entries, and then to 8
+rust-grown-twice : (build : Build)
+    → assemble build doubling (some 0) (record { bytes = []; sections = Mark 0 ∷ Mark 4 ∷ [] }) [] ≡ done (assembled (replicate 8 0) [])
+unfolding assemble converge grow resize startFrom walkFrom iterate emitFrom index indexMut addU32 saturatingSub
+rust-grown-twice build = refl
+
 -- ---- lines 7 and 8: a pushed reference, 254 bytes of data, the mark
 
 abbrev direct : SetSize → StoredAsmSection
@@ -91,13 +114,13 @@ abbrev pub farStore : SetSize → Assembler
 farStore size = record { bytes = replicate 254 0; sections = direct size ∷ Data (record { start = 0; end = 254 }) ∷ Mark 0 ∷ [] }
 
 -- the Rust's own answer to line 7: 61 01 01 and the data, the mark at 257
-pub rust-7 : (build : Build) → assemble build 128 (farStore Unsized) [] ≡ done (assembled (257 ∷ replicate 127 0) (0x61 ∷ 0x01 ∷ 0x01 ∷ replicate 254 0))
-unfolding assemble converge startFrom walkFrom iterate emitFrom emitRef emitBytes index indexMut addU32 subU32 range bytesToHold leBytes
+pub rust-7 : (build : Build) → assemble build doubling none (farStore Unsized) [] ≡ done (assembled (257 ∷ replicate 127 0) (0x61 ∷ 0x01 ∷ 0x01 ∷ replicate 254 0))
+unfolding assemble converge grow resize startFrom walkFrom iterate emitFrom emitRef emitBytes index indexMut addU32 subU32 range bytesToHold leBytes saturatingSub
 rust-7 build = refl
 
 -- and to line 8: section 0
-pub rust-8 : (build : Build) → assemble build 128 (farStore (Sized S1)) [] ≡ done (tooSmallSetSize 0)
-unfolding assemble converge startFrom walkFrom iterate index indexMut addU32 subU32 bytesToHold
+pub rust-8 : (build : Build) → assemble build doubling none (farStore (Sized S1)) [] ≡ done (tooSmallSetSize 0)
+unfolding assemble converge grow resize startFrom walkFrom iterate index indexMut addU32 subU32 bytesToHold saturatingSub
 rust-8 build = refl
 
 -- ---- line 12
@@ -123,8 +146,8 @@ showStore =
 abbrev pub showCode : List ℕ
 showCode = 0x5b ∷ 0x60 ∷ 0x04 ∷ 0x56 ∷ 0x5b ∷ 0xaa ∷ 0xbb ∷ 0x00 ∷ 0x04 ∷ []
 
-pub rust-12 : (build : Build) → assemble build 128 showStore [] ≡ done (assembled (0 ∷ 4 ∷ replicate 126 0) showCode)
-unfolding assemble converge startFrom walkFrom iterate emitFrom emitRef emitBytes index indexMut addU32 subU32 checkedSub range bytesToHold leBytes saturatingSub
+pub rust-12 : (build : Build) → assemble build doubling none showStore [] ≡ done (assembled (0 ∷ 4 ∷ replicate 126 0) showCode)
+unfolding assemble converge grow resize startFrom walkFrom iterate emitFrom emitRef emitBytes index indexMut addU32 subU32 checkedSub range bytesToHold leBytes saturatingSub
 rust-12 build = refl
 
 -- the text that 01 prints
@@ -163,6 +186,6 @@ behindStore =
           ∷ [];
     }
 
-pub rust-behind : (build : Build) → assemble build 128 behindStore [] ≡ done (tooSmallSetSize 4)
-unfolding assemble converge startFrom walkFrom iterate index indexMut addU32 subU32 bytesToHold
+pub rust-behind : (build : Build) → assemble build doubling none behindStore [] ≡ done (tooSmallSetSize 4)
+unfolding assemble converge grow resize startFrom walkFrom iterate index indexMut addU32 subU32 bytesToHold saturatingSub
 rust-behind build = refl

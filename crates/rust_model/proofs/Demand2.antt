@@ -14,7 +14,8 @@ demand-2 build bs words cs a given =
     let same = calls-same build bs words cs a given in
     record {
       store = same .0;
-      assembly = λ lent own premises before result position. assembly-same build a (built bs words cs) (same .1) (same .2) (same .0 .decoded) lent own premises before result position;
+      assembly = λ lent premises reserve promise hint before result position.
+          assembly-same build a (built bs words cs) (same .1) (same .2) (same .0 .decoded) lent premises reserve promise hint before result position;
       listing = listing-same a (built bs words cs) (same .1) (same .2) (same .0 .decoded);
     }
 

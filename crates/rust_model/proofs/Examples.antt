@@ -5,6 +5,7 @@ use native.Mathlib.Omega.{arith}
 use mathlib.Core.Path.{_≡_, refl, sym, ap, _∙_, subst}
 use mathlib.Core.Bool.{Bool, true, false, not, _&&_, and-eq-true-iff as and-true}
 use mathlib.Core.List.{List, [], _∷_, _++_}
+use mathlib.Core.Option.{none}
 use lib.Dec.{leb}
 use lib.ListN.{length, drop, replicate}
 use borrow.Author.Tests.{leb-true, not-true}
@@ -28,10 +29,9 @@ use Rattle.rust_model.specs.Run.{Run, done, panic, Build, index, lenIdx,
 use Rattle.rust_model.specs.Building.{Assembler, empty, lastOf, lastMut, newOps, opByte, newData, pushedData, call, calls}
 use Rattle.rust_model.specs.Assemble.{assembled, assemble}
 use Rattle.rust_model.specs.Demand2.{sectionsOf, Fits, marksWithin, AlwaysFits, Builds, built, Assembles, SameAssembly}
-use Rattle.rust_model.proofs.AnswersComputed.{farStore, rust-7, rust-8, showStore, showCode, rust-12, showText, rust-text-12}
+use Rattle.rust_model.proofs.AnswersComputed.{doubling, doubling-reserves, farStore, rust-7, rust-8, showStore, showCode, rust-12, showText, rust-text-12}
 use Rattle.rust_model.proofs.Demand2.{demand-2}
 use Rattle.rust_model.proofs.Runs.{done-inj}
-use Rattle.rust_model.proofs.Assembly.{below-length}
 
 -- a profile of the four: the answers are the same by all
 abbrev release : Build
@@ -86,16 +86,15 @@ fits-law build bs words (c ∷ cs) a e =
           (now-law bs words a′ (both .0), fits-law build bs words cs a′ (both .1)),
     )
 
--- the list of sections has none of the conditions for 7, 8 and 9, by either table
-assembles : (a : Assembler) (lent own : ℕ) → firstUnplaced (sectionsOf a) ≡ length (sectionsOf a) → firstApart (sectionsOf a) ≡ length (sectionsOf a)
-    → firstShort lent (sectionsOf a) ≡ length (sectionsOf a) → firstShort own (sectionsOf a) ≡ length (sectionsOf a) → Assembles a lent own
+-- the list of sections has none of the conditions for 7, 8 and 9
+assembles : (a : Assembler) (lent : ℕ) → firstUnplaced (sectionsOf a) ≡ length (sectionsOf a) → firstApart (sectionsOf a) ≡ length (sectionsOf a)
+    → firstShort lent (sectionsOf a) ≡ length (sectionsOf a) → Assembles a lent
 unfolding firstUnplaced firstApart firstShort
-assembles a lent own u p s o =
+assembles a lent u p s =
     record {
       marksPlaced = never-law (sectionsOf a) (unplacedAt (sectionsOf a)) .0 u;
       together = never-law (sectionsOf a) (apartAt (sectionsOf a)) .0 p;
       inTable = never-law (sectionsOf a) (shortAt lent (sectionsOf a)) .0 s;
-      grown = below-length own (sectionsOf a) (never-law (sectionsOf a) (shortAt own (sectionsOf a)) .0 o);
     }
 
 -- ---- lines 7 and 8: a pushed reference, 254 bytes of data, the mark
@@ -111,17 +110,17 @@ far-builds : (build : Build) (size : SetSize) → Builds build farBytes farWords
 unfolding calls pushedData lastMut lastOf newData lenIdx fitsFrom fitsAfter fitsNow isWithin
 far-builds build size = record { noPanic = refl; fits = fits-law build farBytes farWords (far size 254) empty refl }
 
--- by a lent table of one entry, and by a table of the Rust's first length, 128
-far-assembles : (size : SetSize) → Assembles (farStore size) 1 128
+-- by a lent table of one entry
+far-assembles : (size : SetSize) → Assembles (farStore size) 1
 unfolding firstShort shortAt firstUnplaced unplacedAt firstApart apartAt leastFrom placed someBytes
-far-assembles size = assembles (farStore size) 1 128 refl refl refl refl
+far-assembles size = assembles (farStore size) 1 refl refl refl
 
 -- what ours comes to on the same calls, a result lent from position 0
 abbrev farOurs : SetSize → List ℕ → Outcome
 farOurs size result = assembly wordsPerSection (built farBytes farWords (far size 254)) 1 result 0
 
-far-same : (build : Build) (size : SetSize) (result : List ℕ) → SameAssembly (farStore size) [] result 0 (farOurs size result) (assemble build 128 (farStore size) [])
-far-same build size result = demand-2 build farBytes farWords (far size 254) (farStore size) (far-builds build size) .assembly 1 128 (far-assembles size) [] result 0
+far-same : (build : Build) (size : SetSize) (result : List ℕ) → SameAssembly (farStore size) [] result 0 (farOurs size result) (assemble build doubling none (farStore size) [])
+far-same build size result = demand-2 build farBytes farWords (far size 254) (farStore size) (far-builds build size) .assembly 1 (far-assembles size) doubling doubling-reserves none [] result 0
 
 -- the code that was appended to nothing, as ours wrote it
 carried : (a : Assembler) (table code result : List ℕ) (ours : Outcome) → SameAssembly a [] result 0 ours (done (assembled table code)) → length code ≤ length result
@@ -174,9 +173,9 @@ show-builds : (build : Build) → Builds build showBytes showWords showCalls sho
 unfolding calls opByte pushedData lastMut lastOf newOps newData lenIdx pushed fitsFrom fitsAfter fitsNow isWithin
 show-builds build = record { noPanic = refl; fits = fits-law build showBytes showWords showCalls empty refl }
 
-show-assembles : Assembles showStore 2 128
+show-assembles : Assembles showStore 2
 unfolding firstShort shortAt firstUnplaced unplacedAt firstApart apartAt leastFrom placed someBytes
-show-assembles = assembles showStore 2 128 refl refl refl refl
+show-assembles = assembles showStore 2 refl refl refl
 
 abbrev showOurs : List ℕ → Outcome
 showOurs result = assembly wordsPerSection (built showBytes showWords showCalls) 2 result 0
@@ -187,7 +186,7 @@ pub line-12 : (result : List ℕ) → 9 ≤ length result
     × (entry (showOurs result .table) 0 ≡ 0) × (entry (showOurs result .table) 1 ≡ 4)
 unfolding placed index
 line-12 result fits =
-    let same = demand-2 release showBytes showWords showCalls showStore (show-builds release) .assembly 2 128 show-assembles [] result 0 in
+    let same = demand-2 release showBytes showWords showCalls showStore (show-builds release) .assembly 2 show-assembles doubling doubling-reserves none [] result 0 in
     let q = carried showStore (0 ∷ 4 ∷ replicate 126 0) showCode result (showOurs result) (subst (SameAssembly showStore [] result 0 (showOurs result)) (rust-12 release) same) fits in
     (q .0, q .1, q .2, sym (done-inj (q .3 0 refl)), sym (done-inj (q .3 1 refl)))
 

@@ -10,6 +10,7 @@ pub mod Pushes
 pub mod Converse
 pub mod Building
 pub mod Steps
+pub mod TableGrowth
 pub mod Offsets
 pub mod Lent
 pub mod Emission
