@@ -134,6 +134,11 @@ at-all Q [] h i l = absurd (omega arith)
 at-all Q (s ∷ ss) h zero l = h .0
 at-all Q (s ∷ ss) h (suc i) l = at-all Q ss (h .1) i (omega arith)
 
+-- no sum of sizes overflows
+pub sums-small : (a : Assembler) (st : Store) → Undamaged wordsPerSection st → decode wordsPerSection st ≡ sectionsOf a → need (sectionsOf a) < 4294967296
+sums-small a st undamaged decoded =
+    subst (λ (l : List Section). need l < 4294967296) decoded (stored-small wordsPerSection st (undamaged-iff wordsPerSection st .0 undamaged))
+
 -- ---- assembly
 
 module _
@@ -169,7 +174,7 @@ module _
 
     -- no sum overflows
     small : need ss < 4294967296
-    small = subst (λ (l : List Section). need l < 4294967296) decoded (stored-small wordsPerSection st (undamaged-iff wordsPerSection st .0 undamaged))
+    small = sums-small a st undamaged decoded
 
     -- 7, 8 and 9 don't hold
     sound : layout.Sound lent ss

@@ -14,6 +14,7 @@ pub mod TableGrowth
 pub mod Offsets
 pub mod Lent
 pub mod Emission
+pub mod PlacedApart
 pub mod Assembly
 pub mod Text
 pub mod Ops

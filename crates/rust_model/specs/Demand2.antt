@@ -139,3 +139,10 @@ pub record Demand2 (build : Build) (bs words : List ℕ) (cs : List Call) (a : A
 abbrev pub SameAcceptance : Build → List ℕ → List ℕ → List Call → Type 0
 SameAcceptance build bs words cs =
     ((a : Assembler) × Builds build bs words cs a) ↔ EveryStored (runReplies wordsPerSection cs (opened bs words))
+
+-- where the Rust answers code, no mark, named or not, has bytes between its placings. So the premise `together` of `Assembles` leaves out
+-- no code: only lists on which the Rust never settles, or reports a too small set size.
+abbrev pub CodeTogether : Build → Assembler → Type 0
+CodeTogether build a =
+    (reserve : Reserve) (hint : Option ℕ) (before table result : List ℕ)
+    → assemble build reserve hint a before ≡ done (assembled table result) → Never (sectionsOf a) (apartAt (sectionsOf a))
