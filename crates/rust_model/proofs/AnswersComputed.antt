@@ -1,5 +1,7 @@
 -- What the Rust's definition computes, without a theorem: sums and differences that wrap round, its debug assertion, single calls and
--- steps, the answers to lines 7, 8 and 12 of 01's layouts tried by hand, and a reference behind a mark that moves. Assumes nothing.
+-- steps, a table that grows, the answers to lines 7, 8 and 12 of 01's layouts tried by hand, a reference behind a mark that moves, and marks
+-- with bytes between their placings. Files are checked by their names' order; this one's has it refuse a wrong definition first, at what
+-- it computes. Assumes nothing.
 use Prim.Native.Nat.{ℕ, zero, suc, _+_, _*_, max}
 use native.Mathlib.Omega.{arith}
 use mathlib.Core.Path.{_≡_, refl}
@@ -189,3 +191,30 @@ behindStore =
 pub rust-behind : (build : Build) → assemble build doubling none behindStore [] ≡ done (tooSmallSetSize 4)
 unfolding assemble converge grow resize startFrom walkFrom iterate index indexMut addU32 subU32 bytesToHold saturatingSub
 rust-behind build = refl
+
+-- ---- marks with bytes between their placings
+
+-- mark 0, op 5b, mark 0: the entry moves twice in each of 1,024 walks
+rust-never-settles : (build : Build)
+    → assemble build doubling none (record { bytes = 0x5b ∷ []; sections = Mark 0 ∷ Ops (record { start = 0; end = 1 }) ∷ Mark 0 ∷ [] }) [] ≡ panic
+unfolding assemble converge grow resize startFrom walkFrom iterate index indexMut addU32 subU32 saturatingSub
+rust-never-settles build = refl
+
+-- mark 1, op 5b, mark 1, then raw ref 0 of size 1, 254 bytes, mark 0 at 256: a too small set size, although mark 1 isn't named
+rust-apart : (build : Build)
+    → assemble build doubling none
+    (record {
+      bytes = 0x5b ∷ replicate 254 0;
+      sections =
+          Mark 1
+          ∷ Ops (record { start = 0; end = 1 })
+          ∷ Mark 1
+          ∷ DirectMarkRef 0 (Sized S1) false
+          ∷ Data (record { start = 1; end = 255 })
+          ∷ Mark 0
+          ∷ [];
+    })
+    []
+    ≡ done (tooSmallSetSize 3)
+unfolding assemble converge grow resize startFrom walkFrom iterate index indexMut addU32 subU32 bytesToHold saturatingSub
+rust-apart build = refl

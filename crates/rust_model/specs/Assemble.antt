@@ -1,6 +1,6 @@
 -- The Rust's `converge_mark_offsets` and `assemble`, written from lib.rs. Its offset table has as many zeros as the hint says, or 128, and
--- grows by zeros at each mark that it lacks, to a capacity that the vector and its allocator choose: that choice is a parameter.
--- Memory doesn't run out. Assumes nothing.
+-- grows by zeros at each mark that it lacks, to a capacity that the vector and its allocator choose: that choice is a parameter. They
+-- always find the memory here. Assumes nothing else.
 use Prim.Native.Nat.{ℕ, zero, suc, _+_, _-_, _≤_}
 use mathlib.Core.Bool.{Bool, true, false, cond, _&&_}
 use mathlib.Core.List.{List, [], _∷_, _++_, reverse}
@@ -19,8 +19,8 @@ use Rattle.rust_model.specs.Sections.{asU32, bytesToHold, minCompiledSiz
 
 -- ---- the table's growth
 
--- `capacity()` after `reserve(additional)`, of a table of some length. A function of these two is any choice that a vector can make: the
--- same two come again only where nothing is reserved and nothing grew.
+-- `capacity()` after `reserve(additional)`, from the table's length and the additional entries. The length is then made the capacity, so the
+-- same two numbers come again only where the answer was that length: in one run a vector's answers are always such a function.
 abbrev pub Reserve : Type 0
 Reserve = ℕ → ℕ → ℕ
 
