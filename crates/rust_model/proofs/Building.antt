@@ -157,7 +157,7 @@ module _ (build : Build) (bs words : List ℕ) where
         wordsFit = omega (arith, f .wordsFit, s .wordsLent);
       }
 
-  -- what an accepted call has
+  -- the bytes of an accepted call are within the limit
   room : (p : Push) (st : Store) → bytesPass (added p) st ≡ false → st .storedBytes + length (bytesOf (added p)) ≤ maxBytes
   unfolding bytesPass
   room p st e = omega (arith, ltb-false (min (length (st .bytes)) maxBytes) (st .storedBytes + length (bytesOf (added p))) e)
@@ -172,10 +172,12 @@ module _ (build : Build) (bs words : List ℕ) where
   push-stored : (p : Push) (st : Store) (a : Assembler) → Same bs words st a → (r : BuiltReply) → pushReply wordsPerSection p st ≡ r → IsStored r → CallComes (push p) st a
   push-stored p st a s (accepted counts) e t =
       let n = push-answers wordsPerSection p st .accepted-iff counts .0 e .0 in
-      let fits = room p st (n .1 .1 .1 .1 .0) in
+      let marks = n .1 .1 in
+      let bytes = marks .1 .1 in
+      let fits = room p st (bytes .0) in
       let run = push-comes build p a (s .kept) (n .0) (n .1 .0) (omega (arith, s .count)) in
       let q : Pushed p a (run .0) = push-same build p a (run .0) (s .kept) (run .1) in
-      record { after = run .0; comes = run .1; within = n .1 .1 .0; same = same-after bs words st a (run .0) p s q counts e }
+      record { after = run .0; comes = run .1; within = marks .0; same = same-after bs words st a (run .0) p s q counts e }
   push-stored p st a s (refused n i k) e t = absurd t
 
   call-stored : (c : Call) (st : Store) (a : Assembler) → Same bs words st a → IsStored (callReply wordsPerSection c st) → CallComes c st a
