@@ -219,7 +219,7 @@ module _
       code = codeOf (entry t) ss
 
       -- no delta is backward: the Rust appends the code, and ours is written where it fits
-      forward : Never ss (backwardAt t ss) → SameAssembly a before result position ours (theirs)
+      forward : Never ss (backwardAt t ss) → SameAssembly a before result position ours theirs
       forward never =
           let rust : emitFrom (a .bytes) T rs before ≡ done (before ++ codeOf (entry T) ss) =
           emit-same (a .bytes) T rs before spans in-map (still-ready T ss 0 e (own-still .1))
@@ -241,7 +241,7 @@ module _
           })
 
       -- some delta is backward: the Rust panics, and ours is 12
-      backward : (i : ℕ) → IsFirst ss (backwardAt t ss) i → SameAssembly a before result position ours (theirs)
+      backward : (i : ℕ) → IsFirst ss (backwardAt t ss) i → SameAssembly a before result position ours theirs
       backward i first =
           let is : theirs ≡ panic =
           converged (done (ok T)) (ap rustSettling byOwn)
@@ -249,19 +249,19 @@ module _
           let says : Says lent ss (noLayout (layout.backward i k′)) = (t, e′, sound, settle-law lent ss (settled t e′ k′) .0 byLent, first) in
           subst (SameAssembly a before result position ours) (sym is) (i, k′, inr (refuses (layout.backward i k′) says))
 
-      settled-same : SameAssembly a before result position ours (theirs)
+      settled-same : SameAssembly a before result position ours theirs
       settled-same = go (first-or-never ss (backwardAt t ss))
         where
-          go : ((i : ℕ) × IsFirst ss (backwardAt t ss) i) ⊎ Never ss (backwardAt t ss) → SameAssembly a before result position ours (theirs)
+          go : ((i : ℕ) × IsFirst ss (backwardAt t ss) i) ⊎ Never ss (backwardAt t ss) → SameAssembly a before result position ours theirs
           go (inl b) = backward (b .0) (b .1)
           go (inr n) = forward n
 
     -- ---- what both come to
 
-    pub assembly-same : SameAssembly a before result position ours (theirs)
+    pub assembly-same : SameAssembly a before result position ours theirs
     assembly-same = go (settle own ss) refl (settle lent ss) refl (settle-alike own lent ss (given .marksPlaced) grown (below-length lent ss (given .inTable)))
       where
-        go : (x : Settling) → settle own ss ≡ x → (y : Settling) → settle lent ss ≡ y → SameSettling (placed ss) x y → SameAssembly a before result position ours (theirs)
+        go : (x : Settling) → settle own ss ≡ x → (y : Settling) → settle lent ss ≡ y → SameSettling (placed ss) x y → SameAssembly a before result position ours theirs
         go (settled T e k) p (settled t e′ k′) q s = settled-same T t e e′ k k′ p q (s .2)
         go (settled T e k) p (narrowAt j k′) q s = absurd s
         go (settled T e k) p unsettled q s = absurd s

@@ -134,6 +134,8 @@ pub record Demand2 (build : Build) (bs words : List ℕ) (cs : List Call) (a : A
       (assembly wordsPerSection (built bs words cs) lent result position) (assemble build reserve hint a before)
   pub listing : SameListing a (built bs words cs)
 
+-- ---- beside the demand
+
 -- our calls are all accepted exactly where the Rust's don't panic, limits hold and the two slices are long enough. So no building call of
 -- the Rust, as it is defined here, panics where ours is accepted, and `Demand2` holds of every list that ours accepts.
 abbrev pub SameAcceptance : Build → List ℕ → List ℕ → List Call → Type 0
@@ -141,7 +143,7 @@ SameAcceptance build bs words cs =
     ((a : Assembler) × Builds build bs words cs a) ↔ EveryStored (runReplies wordsPerSection cs (opened bs words))
 
 -- where the Rust answers code, no mark, named or not, has bytes between its placings. So the premise `together` of `Assembles` leaves out
--- no code: only lists on which the Rust never settles, or reports a too small set size.
+-- no code: only lists on which the Rust panics, since it never settles, or reports a too small set size.
 abbrev pub CodeTogether : Build → Assembler → Type 0
 CodeTogether build a =
     (reserve : Reserve) (hint : Option ℕ) (before table result : List ℕ)
