@@ -19,8 +19,8 @@ use Rattle.rust_model.specs.Sections.{asU32, bytesToHold, minCompiledSiz
 
 -- ---- the table's growth
 
--- `capacity()` after `reserve(additional)`, from the table's length and the additional entries. The length is then made the capacity, so the
--- same two numbers come again only where the answer was that length: in one run a vector's answers are always such a function.
+-- `capacity()` after `reserve(additional)`, from the table's length and the additional entries. The length is then made the capacity, so
+-- the same two numbers come again only where the answer was that length: in one run a vector's answers are always such a function.
 abbrev pub Reserve : Type 0
 Reserve = ℕ → ℕ → ℕ
 
