@@ -7,7 +7,6 @@ mod table;
 
 use crate::passes::run_passes;
 use crate::search::first_backward;
-use crate::search::first_short;
 use crate::search::first_unplaced;
 use crate::table::less_one;
 use crate::table::place;
@@ -19,7 +18,9 @@ use units::Refusal;
 ghost use mathlib.Core.Path.{_≡_};
 ghost use lib.ListN.{length, replicate};
 ghost use Rattle.records.specs.Store.{storeOf, wordsPerSection};
+ghost use mathlib.Core.Bool.{false};
 ghost use Rattle.layout.specs.Passes.{start};
+ghost use Rattle.layout.specs.Conditions.{Never, deltaAt};
 ghost use Rattle.layout.specs.Answer.{answer, answerReply, answerTable};
 ghost use Rattle.settling.specs.SectionWalk.{sectionsOf, Whole, Fitting, lessOne, settledAnswer};
 ghost use Rattle.settling.specs.Settle.{settling, settledReply};
@@ -59,27 +60,39 @@ fn settle_whole(store: Assembler, bytes: &[u8], words: &[u32], table: &mut [u32]
         ≡ answerTable (length (now (table .entry)))
         (answer (length (now (table .entry))) (sectionsOf store (now (bytes .entry)) (now (words .entry)))) ⌝ }
 {
-    let short = first_short(store, bytes, words, table.len());
-    if short < store.sections {
-        return Settled::Refused(Refusal::ShortTable { section: short });
+    let found = place(store, bytes, words, table);
+    if found.short < store.sections {
+        clear(table);
+        return Settled::Refused(Refusal::ShortTable {
+            section: found.short,
+        });
     }
-    let apart = place(store, bytes, words, table);
     let unplaced = first_unplaced(store, bytes, words, table);
     if unplaced < store.sections {
         clear(table);
         return Settled::Refused(Refusal::Unplaced { section: unplaced });
     }
-    if apart < store.sections {
+    if found.apart < store.sections {
         clear(table);
-        return Settled::Refused(Refusal::PlacedApart { section: apart });
+        return Settled::Refused(Refusal::PlacedApart {
+            section: found.apart,
+        });
     }
-    settle_placed(store, bytes, words, table)
+    settle_placed(store, bytes, words, table, found.has_delta)
 }
 
 // The start table, the passes and 12, where 7 to 9 are not the answer.
-fn settle_placed(store: Assembler, bytes: &[u8], words: &[u32], table: &mut [u32]) -> Settled
+fn settle_placed(
+    store: Assembler,
+    bytes: &[u8],
+    words: &[u32],
+    table: &mut [u32],
+    has_delta: bool,
+) -> Settled
     requires { ⌜ Fitting store (now bytes) (now words) (length (now table)) ⌝ }
     requires { ⌜ lessOne (now table) ≡ start (length (now table)) (sectionsOf store (now bytes) (now words)) ⌝ }
+    requires { ⌜ («has_delta» ≡ false
+        → Never (sectionsOf store (now bytes) (now words)) (deltaAt (sectionsOf store (now bytes) (now words)))) ⌝ }
     ensures reply { λ r.
         ⌜ settledReply r
         ≡ answerReply (settledAnswer (length (now (table .entry))) (sectionsOf store (now (bytes .entry)) (now (words .entry)))) ⌝ }
@@ -93,7 +106,7 @@ fn settle_placed(store: Assembler, bytes: &[u8], words: &[u32], table: &mut [u32
     let Settled::LaidOut { length: _, passes } = reply else {
         return reply;
     };
-    let backward = first_backward(store, bytes, words, table);
+    let backward = first_backward(store, bytes, words, table, has_delta);
     if backward < store.sections {
         clear(table);
         return Settled::Refused(Refusal::Backward {

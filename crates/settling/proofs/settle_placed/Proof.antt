@@ -44,7 +44,7 @@ started c = c .before .before .before .before
 passed : (c : tie.After-run-passes) → (c .run-passes .result ≡ passesReply (comes-to (started c))) × (c .run-passes .last .1 .1 .1 .0 ≡ passesTable (long (started c)) (comes-to (started c)))
 passed c =
     let s = started c in
-    let is = settle-is (long s) (sections s) _ (s .less-one .ensures ∙ entry s .pre .1) in
+    let is = settle-is (long s) (sections s) _ (s .less-one .ensures ∙ entry s .pre .1 .0) in
     (c .run-passes .ensures .0 ∙ ap passesReply is, c .run-passes .ensures .1 ∙ ap₂ passesTable (s .less-one .kept .0) is)
 
 kept : (c : tie.After-run-passes) → length (c .run-passes .last .1 .1 .1 .0) ≡ long (started c)
@@ -84,7 +84,7 @@ returns c =
 first-backward-requires : tie.Need-first-backward-requires
 first-backward-requires c κs =
     let r = run (c .before .before) in
-    subst (Fitting _ _ _) (sym (kept r)) (entry (started r) .pre .0)
+    (subst (Fitting _ _ _) (sym (kept r)) (entry (started r) .pre .0), entry (started r) .pre .1 .1)
 
 clear-requires : tie.Need-clear-requires
 clear-requires c κs = search needs
