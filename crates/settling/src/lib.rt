@@ -24,6 +24,7 @@ ghost use Rattle.layout.specs.Conditions.{Never, deltaAt};
 ghost use Rattle.layout.specs.Answer.{answer, answerReply, answerTable};
 ghost use Rattle.settling.specs.SectionWalk.{sectionsOf, Whole, Fitting, lessOne, settledAnswer};
 ghost use Rattle.settling.specs.Settle.{settling, settledReply};
+ghost use Rattle.settling.specs.declared.Settled.the-variants.{Refused};
 
 // Settled: the code's length in all and the passes made; or a refusal, 6 to 12, with the table all 0.
 pub enum Settled {
@@ -61,22 +62,17 @@ fn settle_whole(store: Assembler, bytes: &[u8], words: &[u32], table: &mut [u32]
         (answer (length (now (table .entry))) (sectionsOf store (now (bytes .entry)) (now (words .entry)))) ⌝ }
 {
     let found = place(store, bytes, words, table);
-    if found.short < store.sections {
-        clear(table);
-        return Settled::Refused(Refusal::ShortTable {
-            section: found.short,
-        });
+    let short = found.short;
+    if short < store.sections {
+        return refuse(table, Refusal::ShortTable { section: short });
     }
     let unplaced = first_unplaced(store, bytes, words, table);
     if unplaced < store.sections {
-        clear(table);
-        return Settled::Refused(Refusal::Unplaced { section: unplaced });
+        return refuse(table, Refusal::Unplaced { section: unplaced });
     }
-    if found.apart < store.sections {
-        clear(table);
-        return Settled::Refused(Refusal::PlacedApart {
-            section: found.apart,
-        });
+    let apart = found.apart;
+    if apart < store.sections {
+        return refuse(table, Refusal::PlacedApart { section: apart });
     }
     settle_placed(store, bytes, words, table, found.has_delta)
 }
@@ -108,11 +104,20 @@ fn settle_placed(
     };
     let backward = first_backward(store, bytes, words, table, has_delta);
     if backward < store.sections {
-        clear(table);
-        return Settled::Refused(Refusal::Backward {
+        let refusal = Refusal::Backward {
             section: backward,
             passes,
-        });
+        };
+        return refuse(table, refusal);
     }
     reply
+}
+
+// A refusal after the tests of 6: the table, which may hold placings or offsets, is all 0 again.
+pub(crate) fn refuse(table: &mut [u32], refusal: Refusal) -> Settled
+    ensures reply { λ r. ⌜ r ≡ Refused refusal ⌝ }
+    ensures table { λ _. ⌜ now (table .exit) ≡ replicate (length (now (table .entry))) 0 ⌝ }
+{
+    clear(table);
+    Settled::Refused(refusal)
 }

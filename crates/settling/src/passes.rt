@@ -1,8 +1,8 @@
 // The passes: a walk over the sections in place, again until no mark moves, at most 1,024 times.
 use crate::Settled;
+use crate::refuse;
 use crate::section::section_words;
 use crate::section::size_of;
-use crate::table::clear;
 use records::Assembler;
 use records::kind;
 use units::MarkId;
@@ -76,6 +76,5 @@ pub(crate) fn run_passes(
         }
         k += 1;
     }
-    clear(table);
-    Settled::Refused(refusal)
+    refuse(table, refusal)
 }

@@ -15,6 +15,7 @@ use Rattle.layout.specs.Answer.{shortTable, unplaced, placedApart, settlingAnsw
 use Rattle.layout.proofs.Least.{none-found}
 use Rattle.layout.proofs.Answers.{short-law, unplaced-law, apart-law}
 use Rattle.settling.specs.SectionWalk.{sectionsOf, Fitting, firstSums, Placed}
+use Rattle.settling.specs.Settle.{settledReply}
 use Rattle.settling.proofs.Sections.{decode-count}
 use Rattle.settling.proofs.SettleAnswers.{answers-said, answers-sound}
 use Rattle.settling.proofs.settle_whole.Statement.{statement}
@@ -36,8 +37,8 @@ count s = decode-count wordsPerSection (storeOf (s .args .store) (now (s .args .
 abbrev entry : tie.After-place → tie.Start
 entry c = c .before .before .before .before .before
 
-abbrev walk : tie.After-struct-known2 → tie.After-place
-walk c = c .before .before .before .before
+abbrev walk : tie.After-struct-known → tie.After-place
+walk c = c .before .before .before
 
 abbrev unshort : tie.After-first-unplaced → tie.Else1
 unshort c = c .before .before
@@ -70,8 +71,8 @@ never-unplaced c =
     none-found (sections (start found)) _ _ _ (found .first-unplaced .ensures) (count (start found)) (c .if2 .left)
 
 -- the search for 8, seen from the test of 9
-abbrev searched : tie.After-struct-known5 → tie.After-first-unplaced
-searched c = c .before .before .before .before
+abbrev searched : tie.After-struct-known3 → tie.After-first-unplaced
+searched c = c .before .before .before
 
 never-apart : (c : tie.Else3) → Never (sections (start (searched (c .before)))) (apartAt (sections (start (searched (c .before)))))
 unfolding firstApart
@@ -84,21 +85,23 @@ never-apart c =
 place-requires : tie.Need-place-requires
 place-requires c κs = search needs
 
-clear-requires : tie.Need-clear-requires
-clear-requires c κs = search needs
+refuse-requires : tie.Need-refuse-requires
+refuse-requires c κs = search needs
 
 same-length : tie.Need-same-length
 same-length c = search needs
 
 returns : tie.Need-returns
 returns c =
-    let clearing = c .before .before in
-    let at-if1 = clearing .before .before in
+    let refusing = c .before .before in
+    let at-if1 = refusing .before .before in
     let p = walk (at-if1 .before) in
     let s = entry p in
     let less : p .place .result .short < length (sections s) = omega (arith, count s, at-if1 .if1 .taken) in
+    let said =
     answers-said (long s) (sections s) (shortTable _) _ (short-law _ _ _ .0 (sym (p .place .ensures .0), less))
-    (clearing .clear .ensures ∙ ap (λ (n : ℕ). replicate n 0) (kept p))
+    (refusing .refuse .ensures .1 ∙ ap (λ (n : ℕ). replicate n 0) (kept p)) in
+    (ap settledReply (refusing .refuse .ensures .0) ∙ said .0, said .1)
 
 first-unplaced-requires : tie.Need-first-unplaced-requires
 first-unplaced-requires c κs =
@@ -106,39 +109,43 @@ first-unplaced-requires c κs =
     let p = walk (at-if1 .before) in
     (subst (Fitting _ _ _) (sym (kept p)) (fits at-if1), placed at-if1 .sums ∙ ap (λ (n : ℕ). firstSums n (sections (entry p))) (sym (kept p)))
 
-clear-requires-2 : tie.Need-clear-requires-2
-clear-requires-2 c κs = search needs
+refuse-requires-2 : tie.Need-refuse-requires-2
+refuse-requires-2 c κs = search needs
 
 same-length-2 : tie.Need-same-length-2
 same-length-2 c = search needs
 
 returns-2 : tie.Need-returns-2
 returns-2 c =
-    let clearing = c .before .before in
-    let at-if2 = clearing .before .before in
+    let refusing = c .before .before in
+    let at-if2 = refusing .before .before in
     let found = at-if2 .before .before in
     let s = start found in
     let less : found .first-unplaced .result < length (sections s) = omega (arith, count s, at-if2 .if2 .taken) in
+    let said =
     answers-said (long s) (sections s) (unplaced _) _
     (never-short (unshort found), unplaced-law _ _ .0 (sym (found .first-unplaced .ensures), less))
-    (clearing .clear2 .ensures ∙ ap (λ (n : ℕ). replicate n 0) (kept (walk (unshort found .before))))
+    (refusing .refuse2 .ensures .1 ∙ ap (λ (n : ℕ). replicate n 0) (kept (walk (unshort found .before)))) in
+    (ap settledReply (refusing .refuse2 .ensures .0) ∙ said .0, said .1)
 
-clear-requires-3 : tie.Need-clear-requires-3
-clear-requires-3 c κs = search needs
+refuse-requires-3 : tie.Need-refuse-requires-3
+refuse-requires-3 c κs = search needs
 
 same-length-3 : tie.Need-same-length-3
 same-length-3 c = search needs
 
 returns-3 : tie.Need-returns-3
 returns-3 c =
-    let clearing = c .before .before in
-    let at-if3 = clearing .before .before in
+    let refusing = c .before .before in
+    let at-if3 = refusing .before .before in
     let found = searched (at-if3 .before) in
     let s = start found in
     let less : walk (unshort found .before) .place .result .apart < length (sections s) = omega (arith, count s, at-if3 .if3 .taken) in
+    let said =
     answers-said (long s) (sections s) (placedApart _) _
-    (never-short (unshort found), never-unplaced (at-if3 .before .before .before), apart-law _ _ .0 (sym (placed (unshort found) .apart), less))
-    (clearing .clear3 .ensures ∙ ap (λ (n : ℕ). replicate n 0) (kept (walk (unshort found .before))))
+    (never-short (unshort found), never-unplaced (at-if3 .before .before), apart-law _ _ .0 (sym (placed (unshort found) .apart), less))
+    (refusing .refuse3 .ensures .1 ∙ ap (λ (n : ℕ). replicate n 0) (kept (walk (unshort found .before)))) in
+    (ap settledReply (refusing .refuse3 .ensures .0) ∙ said .0, said .1)
 
 settle-placed-requires : tie.Need-settle-placed-requires
 settle-placed-requires c κs =
@@ -160,7 +167,7 @@ returns-4 c =
     let found = searched (at-if3 .before) in
     let ss = sections (start found) in
     let same = kept (walk (unshort found .before)) in
-    answers-sound (long (start found)) ss _ _ (never-short (unshort found), never-unplaced (at-if3 .before .before .before), never-apart at-if3) (
+    answers-sound (long (start found)) ss _ _ (never-short (unshort found), never-unplaced (at-if3 .before .before), never-apart at-if3) (
       settled .settle-placed .ensures .0 ∙ ap (λ (n : ℕ). answerReply (settlingAnswer ss (settle n ss))) same,
       settled .settle-placed .ensures .1 ∙ ap (λ (n : ℕ). answerTable n (settlingAnswer ss (settle n ss))) same,
     )
@@ -170,14 +177,14 @@ settle-whole-spec =
     tie.close
     (tie.spec
     place-requires
-    clear-requires
+    refuse-requires
     same-length
     returns
     first-unplaced-requires
-    clear-requires-2
+    refuse-requires-2
     same-length-2
     returns-2
-    clear-requires-3
+    refuse-requires-3
     same-length-3
     returns-3
     settle-placed-requires

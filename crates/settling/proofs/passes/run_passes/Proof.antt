@@ -6,7 +6,7 @@ use mathlib.Core.Path.{_≡_, refl, sym, ap, _∙_, subst}
 use mathlib.Core.Bool.{Bool, _||_}
 use mathlib.Core.List.{List}
 use mathlib.Core.Logic.{⊎-elim}
-use lib.ListN.{length, drop, replicate, length-set, length-replicate}
+use lib.ListN.{length, drop, replicate, length-set}
 use borrow.Author.Needs.{needs}
 use borrow.Author.Tests.{not-true, not-false}
 use denote.Ref.{now}
@@ -186,8 +186,8 @@ passes-again c =
       settles-on (sections o) _ _ (comes-to o) (turning .before .passes-test .taken) (o .passes .inv .3) _ _ _ _ (turning .loop .inv .4) (at-end (c .before)) (not-false _ (c .if3 .left)),
     )
 
-clear-requires : tie.Need-clear-requires Inv-loop μ-loop Inv-passes μ-passes
-clear-requires c κs = search needs
+refuse-requires : tie.Need-refuse-requires Inv-loop μ-loop Inv-passes μ-passes
+refuse-requires c κs = search needs
 
 -- ---- refused
 
@@ -216,13 +216,13 @@ refused c =
 same-length-2 : tie.Need-same-length-2 Inv-loop μ-loop Inv-passes μ-passes
 same-length-2 c =
     let cleared = c .before .before in
-    ap length (cleared .clear .ensures) ∙ length-replicate {A = ℕ} _ 0 ∙ left-long (cleared .before .before)
+    cleared .refuse .kept .0 ∙ left-long (cleared .before .before)
 
 returns-2 : tie.Need-returns-2 Inv-loop μ-loop Inv-passes μ-passes
 returns-2 c =
     let cleared = c .before .before in
     let left = cleared .before .before in
-    (refused left .0, cleared .clear .ensures ∙ ap (λ (n : ℕ). replicate n 0) (left-long left) ∙ refused left .1)
+    (cleared .refuse .ensures .0 ∙ refused left .0, cleared .refuse .ensures .1 ∙ ap (λ (n : ℕ). replicate n 0) (left-long left) ∙ refused left .1)
 
 pub run-passes-spec : {M : Type 1} → statement M
 run-passes-spec =
@@ -249,6 +249,6 @@ run-passes-spec =
     add-k
     passes-less
     passes-again
-    clear-requires
+    refuse-requires
     same-length-2
     returns-2)
