@@ -2,30 +2,27 @@
 use Prim.Native.Nat.{ℕ, _+_, _≤_}
 use native.Mathlib.Omega.{arith}
 use mathlib.Core.Path.{_≡_, refl, sym, ap, _∙_, subst}
-use mathlib.Core.Bool.{false, true≢false}
 use mathlib.Core.List.{List, _++_}
 use lib.ListN.{length, replicate}
 use lib.Seq.{slice, slice-empty}
 use Rattle.units.specs.Replies.{tooNarrow}
-use Rattle.units.specs.declared.MarkReference.{MarkReference}
-use Rattle.units.specs.declared.MarkReference.the-variants.{Direct, Delta}
 use Rattle.units.specs.Reply.{refused}
 use Rattle.records.specs.Store.{Store}
-use Rattle.records.specs.Sections.{Section, mark, ops, bytes, reference, decode}
+use Rattle.records.specs.Sections.{Section, decode}
 use Rattle.slices.specs.Over.{over}
 use Rattle.undamaged.specs.View.{Facts}
 use Rattle.slices.proofs.Over.{slice-over}
 use Rattle.undamaged.proofs.Soundness.{undamaged-iff}
 use Rattle.layout.specs.Layout.{Layout, inAll, GivesEnough}
 use Rattle.layout.specs.Passes.{entry, Settling, settled, narrowAt, unsettled, settle}
-use Rattle.layout.specs.Conditions.{sectionAt, Never, refers, backwardBy, backwardAt, isDelta, deltaAt, Premise}
+use Rattle.layout.specs.Conditions.{Premise}
 use Rattle.layout.specs.Answer.{laidOut, noLayout, tooNarrow as narrowRefusal}
 use Rattle.layout.specs.Shortest as list
 use Rattle.layout.proofs.Answers.{settle-law, answer-law}
 use Rattle.layout.proofs.Demand3.{demand-3}
 use Rattle.records.specs.declared.damage.Soundness.the-variants.{Sound}
 use Rattle.settling.specs.Settle.{Settlement, settlement, settling}
-use Rattle.settling.proofs.Sections.{stored-is}
+use Rattle.settling.proofs.Sections.{stored-is, never-backward}
 use Rattle.assembler.specs.Emission.{codeOf, writtenLayout}
 use Rattle.assembler.proofs.Lengths.{written-settled}
 use Rattle.assembler.proofs.Places.{still-sum, sizes-five}
@@ -34,23 +31,6 @@ use Rattle.assembler.specs.Demand3.{Given, Written, Shortest, Demand3}
 use Rattle.assembler.proofs.Decoded.{stored-small}
 use Rattle.assembler.proofs.Laid.{sound-settles, laid}
 use Rattle.assembler.proofs.Outcomes.{LaidBy, written-same, outcome-refused, outcome-written, fits-law}
-
--- a direct reference is never backward
-direct-forward : (table : List ℕ) (r : MarkReference) → isDelta r ≡ false → backwardBy table r ≡ false
-direct-forward table (Direct m) h = refl
-direct-forward table (Delta d) h = absurd (true≢false h)
-
--- so of a section
-section-forward : (table : List ℕ) (s : Section) → refers isDelta s ≡ false → refers (backwardBy table) s ≡ false
-section-forward table (mark m) h = refl
-section-forward table (ops bs) h = refl
-section-forward table (bytes bs) h = refl
-section-forward table (reference r) h = direct-forward table (r .«mark_ref») h
-
--- so of a list
-never-backward : (table : List ℕ) (ss : List Section) → Never ss (deltaAt ss) → Never ss (backwardAt table ss)
-unfolding deltaAt backwardAt
-never-backward table ss h i l = section-forward table (sectionAt ss i) (h i l)
 
 -- bytes that were written are found again
 code-found : (result code : List ℕ) (position size : ℕ) → position ≤ length result → length code ≡ size → slice position (position + size) (over result position code) ≡ code
