@@ -9,8 +9,10 @@
  *     write_asm: the whole answer is the text's length; op_name, size_for, least_size: low = bytes.
  *   number 1 to 14, a refusal of document 01: mid = passes, low = section.
  *   number 255: an argument names nothing; nothing changed.
- * Either, taken as a state, is answered with 6 by every call that doesn't refuse for its own arguments, so that a caller may
- * look at the last answer alone.
+ * A building call's refusal or 255, given on as a state, has a section count above the limit. sadrokki_clear takes it, as any
+ * state, and answers the empty one; every other call refuses again: for its own arguments (1, 2, 3, 255), else with 6 at
+ * section 0. So where each building call was given the answer before it, without a clear, number 0 in the last answer says that
+ * all were accepted; another number says that one wasn't, and neither which nor why. Other calls' answers are no states.
  * Form of a reference: set size (0 unsized, else 1 to 4) plus 8 if pushed. */
 #ifndef SADROKKI_H
 #define SADROKKI_H

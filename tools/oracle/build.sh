@@ -1,11 +1,12 @@
 #!/bin/sh
-# build.sh SRC OUT [CHECKS]: builds the original assembler from the src--*.txt files of the folder SRC, unchanged,
-# beside the stand-ins, and the driver. The program is OUT/driver. CHECKS is on (a debug build's assertions and overflow
-# checks) or off (a release build's). Needs rustc alone.
+# build.sh SRC OUT [CHECKS [ASSERTIONS]]: builds the original assembler from the src--*.txt files of the folder SRC,
+# unchanged, beside the stand-ins, and the driver. The program is OUT/driver. CHECKS (overflow checks) and ASSERTIONS (debug
+# assertions; as CHECKS by default) are on, as in the profile dev, or off, as in release. Needs rustc alone.
 set -eu
-[ $# -eq 2 ] || [ $# -eq 3 ] || { echo "usage: build.sh SRC OUT [on|off]" >&2; exit 2; }
+[ $# -ge 2 ] && [ $# -le 4 ] || { echo "usage: build.sh SRC OUT [on|off [on|off]]" >&2; exit 2; }
 here=$(cd "$(dirname "$0")" && pwd)
 src=$1 out=$2 checks=${3:-on}
+assertions=${4:-$checks}
 
 # The original's own layout: src--plankc--a--b.rs.txt is plankc/a/b.rs.
 for file in "$src"/src--plankc--*.rs.txt; do
@@ -18,7 +19,7 @@ cp "$here/stand-ins/plank_core.rs" "$core/lib.rs"
 cp "$here/stand-ins/idx_slice.rs" "$core/index_vec/idx_slice.rs"
 
 # With checks an overflow or a broken debug_assert! shows as a panic.
-flags="--edition 2024 -O -C overflow-checks=$checks -C debug-assertions=$checks --cap-lints allow -L $out"
+flags="--edition 2024 -O -C overflow-checks=$checks -C debug-assertions=$assertions --cap-lints allow -L $out"
 library() { # library NAME FILE, and what it uses
     name=$1 file=$2
     shift 2

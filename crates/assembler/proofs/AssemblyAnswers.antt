@@ -1,11 +1,13 @@
 -- The law of each answer of assembly: 6 to 13 and written, each exactly in its stated condition. Assumes nothing.
-use Prim.Native.Nat.{ℕ}
+use Prim.Native.Nat.{ℕ, _+_, _<_}
+use native.Mathlib.Omega.{arith}
 use mathlib.Core.Path.{_≡_, refl, sym, ap, _∙_, subst}
 use mathlib.Core.Bool.{Bool, true, false, cond}
-use mathlib.Core.Logic.{_↔_}
+use mathlib.Core.Logic.{_↔_, _⊎_, inl, inr}
 use mathlib.Core.List.{List}
 use lib.Dec.{eqb}
 use lib.ListN.{length}
+use Rattle.units.specs.Replies as number
 use Rattle.units.specs.Reply.{Reply, accepted, refused}
 use Rattle.records.specs.Store.{Store}
 use Rattle.records.specs.Sections.{decode}
@@ -14,13 +16,15 @@ use Rattle.records.specs.declared.damage.Soundness.{Soundness}
 use Rattle.records.specs.declared.damage.Soundness.the-variants as soundness
 use Rattle.undamaged.specs.View.{Undamaged}
 use Rattle.undamaged.proofs.Soundness.{damaged-at-iff}
+use Rattle.layout.specs.Passes.{entry}
 use Rattle.layout.specs.Answer as layout
 use Rattle.layout.proofs.Answers.{answer-law}
 use Rattle.settling.specs.Settle.{Settlement, settlement, settling}
 use Rattle.assembler.specs.Assemble.{Outcome, isFull, assembly}
-use Rattle.assembler.specs.AssemblyAnswers.{AssemblyAnswer, written, damaged, noLayout, resultFull, assemblyReply, AnswerSays}
+use Rattle.assembler.specs.AssemblyAnswers.{AssemblyAnswer, written, damaged, noLayout, resultFull, assemblyReply, AnswerSays, CodePasses}
+use Rattle.assembler.specs.Emission.{codeOf}
 use Rattle.assembler.proofs.Outcomes.{outcome-refused, outcome-full, outcome-written, fits-law, full-law}
-use Rattle.assembler.proofs.Laid.{sound-settles}
+use Rattle.assembler.proofs.Laid.{sound-settles, laid}
 
 -- ---- a reply tells the answer
 
@@ -123,3 +127,27 @@ module _ (w : ℕ) (st : Store) (n : ℕ) (result : List ℕ) (position : ℕ) w
         subst Said (sym (answer-back (said .0)) ∙ ap answerOf same ∙ answer-back a) (said .1),
     says-replied a,
   )
+
+  -- 13 is answered exactly when the code or the position passes the result; its section is 0
+  pub full-exactly : (i k : ℕ) → (assembly w st n result position .reply ≡ refused number.resultFull i k) ↔ ((i ≡ 0) × CodePasses w st n (length result) position k)
+  unfolding answerOf refusalAt
+  full-exactly i k = (there, λ (z, full). back z full)
+    where
+      past : (size : ℕ) → (length result < position) ⊎ (length result < position + size) → length result < position + size
+      past size (inl h) = omega arith
+      past size (inr h) = h
+
+      back : i ≡ 0 → CodePasses w st n (length result) position k → assembly w st n result position .reply ≡ refused number.resultFull i k
+      back z (table, code, is, u, s, h) =
+          says-replied (resultFull k) (length code, (table, u, s), past (length code) h) ∙ ap (λ (x : ℕ). refused number.resultFull x k) (sym z)
+
+      there : assembly w st n result position .reply ≡ refused number.resultFull i k → (i ≡ 0) × CodePasses w st n (length result) position k
+      there h =
+          let same : assemblyReply (said .0) ≡ refused number.resultFull i k = sym (says-replied (said .0) (said .1)) ∙ h in
+          let is : said .0 ≡ resultFull k = sym (answer-back (said .0)) ∙ ap answerOf same in
+          let zero : refused number.resultFull 0 k ≡ refused number.resultFull i k = sym (ap assemblyReply is) ∙ same in
+          let q = subst Said is (said .1) in
+          let table : List ℕ = q .1 .0 in
+          let long : length (codeOf (entry table) (decode w st)) ≡ q .0 = laid w n st table (q .0) k (answered (layout.laidOut table (q .0) k) (q .1 .1) (q .1 .2)) .codeLong in
+          let code : List ℕ = codeOf (entry table) (decode w st) in
+          (cc, (table, code, refl, q .1 .1, rw long (q .1 .2), inr (rw long (q .2))))

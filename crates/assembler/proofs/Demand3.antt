@@ -57,7 +57,7 @@ module _ (w : ℕ) (st : Store) (n : ℕ) (result : List ℕ) (position : ℕ) (
         direct = given .direct;
         marksPlaced = given .marksPlaced;
         together = given .together;
-        few = given .few;
+        few = omega (arith, given .few);
         small = stored-small w st facts;
       }
 

@@ -9,7 +9,7 @@ pub mod Laid
 pub mod Demand3
 pub mod Instructions
 pub mod TightAssembly
+pub mod Copies
 pub mod AssemblyAnswers
 pub mod Assembles
 pub mod Leaves
-pub mod Hand

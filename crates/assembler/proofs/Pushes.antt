@@ -9,7 +9,7 @@ use mathlib.Core.Logic.{inl, inr}
 use mathlib.Core.List.{List, [], _∷_, _++_, map, append-assoc}
 use mathlib.Core.Option.{some}
 use lib.Dec.{eqb}
-use lib.ListN.{length, getD, take, drop, length-append}
+use lib.ListN.{length, getD, take, drop, length-append, length-map, List·getD-map}
 use lib.Seq.{length-take-le, getD-append-seam}
 use borrow.Author.Tests.{eqb-true, eqb-false, ltb-false, not-false}
 use Rattle.units.specs.Numbers.{heldBytes, number, bigEndian}
@@ -96,32 +96,21 @@ push-stands before bs after v p =
 
 -- ---- one section of a code
 
--- an element of a list by a function of each
-getD-map : (f : Section → List ℕ) (ss : List Section) (i : ℕ) → f (mark 0) ≡ [] → getD (map f ss) i [] ≡ f (sectionAt ss i)
-getD-map f [] i e = sym e
-getD-map f (s ∷ ss) zero e = refl
-getD-map f (s ∷ ss) (suc i) e = getD-map f ss i e
-
 -- the widths are the lengths of the parts
 getD-lengths : (ps : List (List ℕ)) (i : ℕ) → getD (map length ps) i 0 ≡ length (getD ps i [])
 getD-lengths [] i = refl
 getD-lengths (p ∷ ps) zero = refl
 getD-lengths (p ∷ ps) (suc i) = getD-lengths ps i
 
--- one part for each section
-length-map : (f : Section → List ℕ) (ss : List Section) → length (map f ss) ≡ length ss
-length-map f [] = refl
-length-map f (s ∷ ss) = ap suc (length-map f ss)
-
 -- section i's bytes in a result that holds the code from a position on
-part-stands : (ss : List Section) (table old : List ℕ) (position i : ℕ) → position ≤ length old → i < length ss
+pub part-stands : (ss : List Section) (table old : List ℕ) (position i : ℕ) → position ≤ length old → i < length ss
     → (before : List ℕ) × (after : List ℕ) × (over old position (codeOf (entry table) ss) ≡ before ++ (sectionBytes (entry table) (sectionAt ss i) ++ after))
     × (length before ≡ position + placeOf table ss i) × (length (sectionBytes (entry table) (sectionAt ss i)) ≡ widthOf table ss i)
 part-stands ss table old position i h l =
     let ps : List (List ℕ) = parts (entry table) ss in
     let part : List ℕ = sectionBytes (entry table) (sectionAt ss i) in
-    let same : getD ps i [] ≡ part = getD-map (sectionBytes (entry table)) ss i refl in
-    let q = row-split ps i (omega (arith, length-map (sectionBytes (entry table)) ss)) in
+    let same : getD ps i [] ≡ part = List·getD-map (sectionBytes (entry table)) ss i (mark 0) in
+    let q = row-split ps i (omega (arith, length-map ss (sectionBytes (entry table)))) in
     let rest : List ℕ = drop (position + length (inARow ps)) old in
     let row : inARow ps ≡ q .0 ++ (part ++ q .1) = q .2 ∙ ap (λ (x : List ℕ). q .0 ++ (x ++ q .1)) same in (
       take position old ++ q .0,

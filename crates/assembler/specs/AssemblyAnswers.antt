@@ -5,13 +5,16 @@ use mathlib.Core.Path.{_≡_}
 use mathlib.Core.Bool.{true, false}
 use mathlib.Core.Logic.{_⊎_}
 use mathlib.Core.List.{List}
+use lib.ListN.{length}
 use Rattle.units.specs.Replies as number
 use Rattle.units.specs.Reply.{Reply, accepted, refused, numbersReply}
 use Rattle.records.specs.Store.{Store}
 use Rattle.records.specs.Sections.{decode}
 use Rattle.records.specs.Damage.{badCount}
 use Rattle.undamaged.specs.View.{Undamaged, FirstBreak}
+use Rattle.layout.specs.Passes.{entry}
 use Rattle.layout.specs.Answer as layout
+use Rattle.assembler.specs.Emission.{codeOf}
 
 -- what assembly can answer
 pub data AssemblyAnswer : Type 0 where
@@ -44,3 +47,11 @@ AnswerSays w st n room position (damaged i) = ((badCount w st ≡ true) × (i �
 AnswerSays w st n room position (noLayout r) = Undamaged w st × layout.Says n (decode w st) (layout.noLayout r)
 -- 13: 'the code passes the result, or the position does'
 AnswerSays w st n room position (resultFull k) = (size : ℕ) × LaidOutIn w st n size k × (room < position + size)
+
+-- 13 once more, by the code itself: 6 to 12 don't hold, and 'the code passes the result, or the position does'. It is answered exactly
+-- then (`full-exactly` of proofs/AssemblyAnswers).
+abbrev pub CodePasses : ℕ → Store → ℕ → ℕ → ℕ → ℕ → Type 0
+CodePasses w st n room position passes =
+    (table : List ℕ) × (code : List ℕ) × (code ≡ codeOf (entry table) (decode w st)) × Undamaged w st
+    × layout.Says n (decode w st) (layout.laidOut table (length code) passes)
+    × ((room < position) ⊎ (room < position + length code))

@@ -5,5 +5,6 @@ pub mod AssemblyAnswers
 pub mod Leaves
 pub mod Demand3
 pub mod Instructions
+pub mod Copies
 pub mod Writing
 pub mod TightAssembly

@@ -7,6 +7,7 @@ use records::form_of;
 use records::kind;
 use units::AsmBytesIdx;
 use units::BytesSpan;
+use units::MarkId;
 use units::form;
 ghost use mathlib.Core.Path.{_≡_};
 ghost use Prim.Native.Nat.{ℕ, _+_, _*_, _≤_, _<_};
@@ -130,12 +131,21 @@ fn value_of(section: StoredSection, table: &[u32]) -> u32
     requires { ⌜ WritableReference (now table) section ⌝ }
     ensures { λ r. ⌜ r ≡ valueWords (now (table .entry)) section ⌝ }
 {
-    let first = section.first as usize;
+    let start = entry_of(table, MarkId(section.first));
     if section.kind == kind::DIRECT {
-        return table[first];
+        return start;
     }
-    let second = section.second as usize;
-    table[second] - table[first]
+    let end = entry_of(table, MarkId(section.second));
+    end - start
+}
+
+// A mark's entry of the table. Private for the same reason as the reader of a section's words.
+fn entry_of(table: &[u32], mark: MarkId) -> u32
+    requires { ⌜ «mark» .0 < length (now table) ⌝ }
+    ensures { λ r. ⌜ r ≡ entry (now (table .entry)) («mark» .0) ⌝ }
+{
+    let at = mark.0 as usize;
+    table[at]
 }
 
 // If pushed, the opcode; the position after it.

@@ -139,10 +139,15 @@ module _ (w : ℕ) (p : Push) (st : Store) where
   abbrev t₅ : Test
   t₅ = test sectionsFull 0 (sectionPasses w (added p) st)
 
-  -- the answer is the first that applies
+  -- of 4 and 5, the first that applies
+  room-chain : roomReply w (added p) st ≡ firstOf (t₄ ∷ t₅ ∷ []) (accepted (countsOf (withSection w (added p) st)))
+  unfolding roomReply
+  room-chain = refl
+
+  -- of all, the first that applies
   push-chain : pushReply w p st ≡ firstOf (t₁ ∷ t₂ ∷ t₃ ∷ t₆ ∷ t₄ ∷ t₅ ∷ []) (accepted (countsOf (withSection w (added p) st)))
-  unfolding pushReply addReply roomReply
-  push-chain = rw sound-chain
+  unfolding pushReply addReply
+  push-chain = rw (sound-chain, room-chain)
 
   -- every answer is given in its condition, where no earlier one holds
   pub push-answers : PushAnswers w p st

@@ -3,7 +3,7 @@ use mathlib.Core.Path.{_≡_, refl}
 use mathlib.Core.List.{[], _∷_}
 use mathlib.Core.Option.{none, some, bind}
 use lib.ListN.{replicate}
-use Rattle.evm.specs.YellowPaper.{isPush, isDup, isSwap, pushSize, instructionLength, instruction, immediate, halts, exchanged, step, runFrom, run}
+use Rattle.evm.specs.YellowPaper.{isPush, isDup, isSwap, pushSize, instructionLength, instruction, immediate, halts, exchanged, step, runFrom, run, stateAt, steps}
 
 -- what each code leaves of a stack
 pub examples :
@@ -27,5 +27,8 @@ pub examples :
     × (run (0x91 ∷ []) (7 ∷ 8 ∷ []) ≡ none)
     -- ADD isn't described
     × (run (0x01 ∷ []) (7 ∷ 8 ∷ []) ≡ none)
-unfolding isPush isDup isSwap pushSize instructionLength instruction immediate halts exchanged step runFrom run bind
-examples = (refl, refl, refl, refl, refl, refl, refl, refl, refl, refl, refl, refl)
+    -- the two instructions behind an ADD, PUSH1 3 and DUP1; a third isn't described
+    × (steps 2 (0x01 ∷ 0x60 ∷ 0x03 ∷ 0x80 ∷ 0x00 ∷ []) (stateAt 1 []) ≡ some (stateAt 4 (3 ∷ 3 ∷ [])))
+    × (steps 3 (0x01 ∷ 0x60 ∷ 0x03 ∷ 0x80 ∷ 0x00 ∷ []) (stateAt 1 []) ≡ none)
+unfolding isPush isDup isSwap pushSize instructionLength instruction immediate halts exchanged step runFrom run steps bind
+examples = (refl, refl, refl, refl, refl, refl, refl, refl, refl, refl, refl, refl, refl, refl)

@@ -1,4 +1,5 @@
 pub mod Steps
+pub mod Sequences
 pub mod Examples
 pub mod Opcodes
 pub mod Walks

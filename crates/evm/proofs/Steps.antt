@@ -4,15 +4,15 @@ use Prim.Native.Nat.{ℕ, zero, suc, _+_, _-_, _≤_, _<_}
 use native.Mathlib.Omega.{arith}
 use native.Mathlib.Decide.{ℕ-discrete}
 use mathlib.Core.Path.{_≡_, refl, sym, ap, _∙_, subst}
-use mathlib.Core.Bool.{Bool, true, false, cond, _&&_, and-false, false≢true}
+use mathlib.Core.Bool.{Bool, true, false, cond, and-false, and-eq-true-iff}
 use mathlib.Core.Logic.{_≢_}
-use mathlib.Core.List.{List, [], _∷_}
+use mathlib.Core.List.{List, _∷_}
 use mathlib.Core.Option.{Option, none, some, bind}
 use lib.ListN.{length, getD, set, length-set}
 use lib.Seq.{getD-set-same, getD-set-other, ext-getD, set-comm}
 use lib.Dec.{leb}
 use borrow.Author.Tests.{le-leb, lt-leb, le-ltb, leb-true}
-use Rattle.evm.specs.YellowPaper.{maxStack, among, isPush, isDup, isSwap, pushSize, instructionLength, Instruction, push, dup, swap, instruction, codeByte, immediate, halts, exchanged, step, runFrom, run, removed, added, effect}
+use Rattle.evm.specs.YellowPaper.{maxStack, among, isPush, isDup, isSwap, pushSize, instructionLength, Instruction, push, dup, swap, instruction, codeByte, immediate, halts, exchanged, step, runFrom, removed, added, effect}
 
 -- ---- opcodes
 
@@ -34,16 +34,11 @@ pub pushSize-push : (n : ℕ) → n ≤ 32 → pushSize (0x5f + n) ≡ n
 unfolding pushSize
 pushSize-push n h = rw (isPush-push n h) (omega arith)
 
--- the second of two tests that both hold
-and-second : (a b : Bool) → (a && b) ≡ true → b ≡ true
-and-second true b e = e
-and-second false b e = absurd (false≢true e)
-
 -- no push has more than 32 bytes of immediate
 pub pushSize-le : (op : ℕ) → isPush op ≡ true → pushSize op ≤ 32
 unfolding pushSize isPush
 pushSize-le op e =
-    let h : op ≤ 0x7f = leb-true op 0x7f (and-second (leb 0x5f op) (leb op 0x7f) e) in
+    let h : op ≤ 0x7f = leb-true op 0x7f (and-eq-true-iff (leb 0x5f op) (leb op 0x7f) .0 e .1) in
     rw e (omega arith)
 
 -- an opcode above 0x7f is no push
@@ -155,17 +150,6 @@ pub runFrom-step : (fuel : ℕ) (code : List ℕ) (at : ℕ) (stack after : List
     → runFrom (suc fuel) code at stack ≡ runFrom fuel code (at + instructionLength (codeByte code at)) after
 unfolding runFrom bind
 runFrom-step fuel code at stack after h e = rw (lt-leb (length code) at h, e)
-
--- a code that is one instruction
-pub run-one : (code stack after : List ℕ)
-    → instructionLength (codeByte code 0) ≡ length code
-    → step code 0 stack ≡ some after
-    → run code stack ≡ some after
-unfolding run instructionLength
-run-one [] stack after l e = absurd (omega arith)
-run-one (op ∷ code) stack after l e =
-    runFrom-step (length code) (op ∷ code) 0 stack after (omega arith) e
-    ∙ runFrom-end (length code) (op ∷ code) (0 + instructionLength op) after (omega arith)
 
 -- ---- exchanged items
 

@@ -1,6 +1,6 @@
--- The Yellow Paper's stack instructions (sections 9.1, 9.4 and 9.5, appendix H.2), with PUSH0 of EIP-3855: what PUSH, DUP and SWAP do
--- to a stack. Code is a list of bytes; a stack is a list of numbers, top first. No other opcode is described in this file, and gas is
--- left out.
+-- The stack instructions of the Yellow Paper, Shanghai version (sections 9.1, 9.4 and 9.5, appendix H.2), with PUSH0 of EIP-3855: what
+-- PUSH, DUP and SWAP do to a stack. The paper's signs are named beside our names; what it says is in our words, and nothing is quoted.
+-- Code is a list of bytes; a stack is a list of numbers, top first. No other opcode is described in this file, and gas is left out.
 -- Imports nothing of ours. Assumes nothing.
 use Prim.Native.Nat.{ℕ, zero, suc, _+_, _*_, _-_}
 use mathlib.Core.Bool.{Bool, cond, _&&_, _||_}
@@ -9,7 +9,7 @@ use mathlib.Core.Option.{Option, none, some, bind}
 use lib.ListN.{length, getD, set}
 use lib.Dec.{leb, ltb}
 
--- 9.1: 'The stack has a maximum size of 1024'
+-- 9.1: the most items that a stack has
 abbrev pub maxStack : ℕ
 maxStack = 1024
 
@@ -19,7 +19,7 @@ maxStack = 1024
 abbrev pub among : ℕ → ℕ → ℕ → Bool
 among first last op = leb first op && leb op last
 
--- PUSH0 is 0x5f (EIP-3855: 'The instruction PUSH0 is introduced at 0x5f'), PUSH1 to PUSH32 are 0x60 to 0x7f
+-- PUSH0 is 0x5f (EIP-3855), PUSH1 to PUSH32 are 0x60 to 0x7f
 unfoldable pub isPush : ℕ → Bool
 isPush op = among 0x5f 0x7f op
 
@@ -31,12 +31,12 @@ isDup op = among 0x80 0x8f op
 unfoldable pub isSwap : ℕ → Bool
 isSwap op = among 0x90 0x9f op
 
--- the bytes after the opcode that belong to it: 0 for PUSH0 ('It has no immediate data'), n for PUSHn, 0 for every other
+-- the bytes after the opcode that belong to it: 0 for PUSH0, which has no immediate (EIP-3855), n for PUSHn, 0 for every other
 unfoldable pub pushSize : ℕ → ℕ
 pushSize op = cond (isPush op) (op - 0x5f) 0
 
--- the bytes of the instruction in all: 9.4.3, where N(i, w) is the position after the instruction w at i,
--- 'i + w - PUSH1 + 2 if w ∈ [PUSH1, PUSH32], i + 1 otherwise'
+-- the bytes of the instruction in all. 9.4.3: the next instruction's position, N(i, w) for the instruction w at i, is past the immediate
+-- of PUSH1 to PUSH32, i + (w - PUSH1) + 2, and i + 1 for every other
 unfoldable pub instructionLength : ℕ → ℕ
 instructionLength op = 1 + pushSize op
 
@@ -59,7 +59,7 @@ instruction op =
 
 -- ---- code
 
--- c(x): 'Ib[x] if x < ‖Ib‖, 0 otherwise'. 'The function c ensures the bytes default to zero if they extend past the limits'
+-- c(x): the code's byte at x, 0 past the code's end
 abbrev pub codeByte : List ℕ → ℕ → ℕ
 codeByte code x = getD code x 0
 
@@ -84,7 +84,7 @@ added (dup n) = n + 1
 added (swap n) = n + 1
 added other = 0
 
--- 9.4.2, exceptional halting: '‖μs‖ < δ' or '‖μs‖ - δ + α > 1024'
+-- 9.4.2, exceptional halting: fewer than δ items, or more than 1,024 after δ are removed and α added
 unfoldable pub halts : Instruction → List ℕ → Bool
 halts i stack = ltb (length stack) (removed i) || ltb maxStack (length stack - removed i + added i)
 
@@ -118,3 +118,20 @@ runFrom (suc fuel) code at stack =
 -- from the first instruction to the code's end, where the machine stops: each takes a byte or more, so the code's length is fuel enough
 unfoldable pub run : List ℕ → List ℕ → Option (List ℕ)
 run code stack = runFrom (length code) code 0 stack
+
+-- ---- one instruction after another
+
+-- of the machine state: the program counter and the stack
+pub record State : Type 0 where
+  pub pc : ℕ
+  pub stack : List ℕ
+
+abbrev pub stateAt : ℕ → List ℕ → State
+stateAt pc stack = record { pc = pc; stack = stack }
+
+-- n instructions from a state on, each where the one before it ends: the state after them, `none` if one halts or isn't described here
+unfoldable pub steps : ℕ → List ℕ → State → Option State
+steps zero code μ = some μ
+steps (suc n) code μ =
+    bind (step code (μ .pc) (μ .stack))
+    (λ after. steps n code (stateAt (μ .pc + instructionLength (codeByte code (μ .pc))) after))

@@ -1,3 +1,6 @@
 pub mod Lines
+pub mod Lists
+pub mod Shortest
+pub mod Exchanges
 pub mod TightExamples
 pub mod Line11

@@ -1,1 +1,1 @@
-// 'Layouts tried by hand' (document 01): theorems alone, in proofs/Lines.
+// 'Layouts tried by hand' (document 01) and other examples: theorems alone, in proofs/.

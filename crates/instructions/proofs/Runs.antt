@@ -1,19 +1,20 @@
 -- Pushes and SWAPs by the Yellow Paper: the immediate of a push is the number that its bytes are, wherever the push stands in a
--- code; and runs of one and of three SWAPs. Assumes nothing.
+-- code; and one SWAP and three of them, wherever they stand. Assumes nothing.
 use Prim.Native.Nat.{ℕ, zero, suc, _+_, _≤_, _<_}
 use native.Mathlib.Omega.{arith}
-use mathlib.Core.Path.{_≡_, refl, sym, ap, _∙_, subst}
+use mathlib.Core.Path.{_≡_, sym, ap, ap₂, _∙_, subst}
 use mathlib.Core.Bool.{true}
 use mathlib.Core.Logic.{_≢_}
-use mathlib.Core.List.{List, [], _∷_, _++_}
+use mathlib.Core.List.{List, _∷_, _++_}
 use mathlib.Core.Option.{some}
 use lib.ListN.{length, take, drop, length-append, length-drop}
 use lib.Seq.{take-append-seam, take-length, getD-drop, getD-append-seam, drop-append-add}
 use Rattle.units.specs.Numbers.{number}
 use Rattle.units.proofs.BigEndian.{number-nil, number-take}
 use Rattle.evm.specs.Opcodes.{pushOp, swapOp}
-use Rattle.evm.specs.YellowPaper.{maxStack, isPush, pushSize, instructionLength, instruction, push, codeByte, immediate, exchanged, step, runFrom, run}
-use Rattle.evm.proofs.Steps.{isPush-push, pushSize-push, instruction-push, instruction-swap, instructionLength-above, step-push, step-swap, effect-of-step, runFrom-step, runFrom-end, length-exchanged, exchanged-three}
+use Rattle.evm.specs.YellowPaper.{maxStack, isPush, pushSize, instructionLength, instruction, push, codeByte, immediate, exchanged, step, stateAt, steps}
+use Rattle.evm.proofs.Steps.{isPush-push, pushSize-push, instruction-push, instruction-swap, instructionLength-above, step-push, step-swap, effect-of-step, length-exchanged, exchanged-three}
+use Rattle.evm.proofs.Sequences.{steps-one, steps-join}
 
 -- an immediate that stands in the code is the number of its bytes
 pub immediate-number : (code : List ℕ) (x n : ℕ) → x + n ≤ length code → immediate code x n ≡ number (take n (drop x code))
@@ -57,30 +58,30 @@ pushed-number op imm stack v p l e =
     let g : immediate (op ∷ imm) (0 + 1) (length imm) ≡ v = cc in
     sym g ∙ immediate-number (op ∷ imm) 1 (length imm) (omega arith) ∙ ap number (take-length imm)
 
--- a run over a SWAP
-pub runFrom-swap : (fuel : ℕ) (code : List ℕ) (at : ℕ) (stack : List ℕ) (d : ℕ)
-    → at < length code → codeByte code at ≡ swapOp d
+-- SWAP of depth d, wherever it stands: it exchanges the top and the item at depth d
+pub swap-at : (code : List ℕ) (at d : ℕ) (stack : List ℕ) → codeByte code at ≡ swapOp d
     → 1 ≤ d → d ≤ 16 → d < length stack → length stack ≤ maxStack
-    → runFrom (suc fuel) code at stack ≡ runFrom fuel code (at + 1) (exchanged 0 d stack)
-runFrom-swap fuel code at stack d h op l u deep fits =
-    let one : instructionLength (codeByte code at) ≡ 1 = ap instructionLength op ∙ instructionLength-above (swapOp d) (omega arith) in
-    runFrom-step fuel code at stack (exchanged 0 d stack) h (step-swap code at stack d (ap instruction op ∙ instruction-swap d l u) deep fits)
-    ∙ ap (λ (k : ℕ). runFrom fuel code (at + k) (exchanged 0 d stack)) one
+    → steps 1 code (stateAt at stack) ≡ some (stateAt (at + 1) (exchanged 0 d stack))
+swap-at code at d stack op l u deep fits =
+    steps-one code at stack (exchanged 0 d stack) 1 (ap instructionLength op ∙ instructionLength-above (swapOp d) (omega arith))
+    (step-swap code at stack d (ap instruction op ∙ instruction-swap d l u) deep fits)
 
--- three SWAPs
-pub run-three : (n m : ℕ) (stack : List ℕ)
+-- three SWAPs, wherever they stand
+pub three-at : (code : List ℕ) (at n m : ℕ) (stack : List ℕ)
+    → codeByte code at ≡ swapOp n → codeByte code (at + 1) ≡ swapOp m → codeByte code (at + 2) ≡ swapOp n
     → n ≢ 0 → m ≢ 0 → n ≢ m → n ≤ 16 → m ≤ 16
     → n < length stack → m < length stack → length stack ≤ maxStack
-    → run (swapOp n ∷ swapOp m ∷ swapOp n ∷ []) stack ≡ some (exchanged n m stack)
-unfolding run
-run-three n m stack n0 m0 nm hn hm ln lm fits =
-    let code : List ℕ = swapOp n ∷ swapOp m ∷ swapOp n ∷ [] in
+    → steps 3 code (stateAt at stack) ≡ some (stateAt (at + 3) (exchanged n m stack))
+three-at code at n m stack o₁ o₂ o₃ n0 m0 nm hn hm ln lm fits =
     let once : List ℕ = exchanged 0 n stack in
     let twice : List ℕ = exchanged 0 m once in
     let e : length once ≡ length stack = length-exchanged 0 n stack in
     let f : length twice ≡ length stack = length-exchanged 0 m once ∙ e in
-    runFrom-swap 2 code 0 stack n (omega arith) refl (omega arith) hn ln fits
-    ∙ runFrom-swap 1 code 1 once m (omega arith) refl (omega arith) hm (omega arith) (omega arith)
-    ∙ runFrom-swap 0 code 2 twice n (omega arith) refl (omega arith) hn (omega arith) (omega arith)
-    ∙ runFrom-end 0 code 3 (exchanged 0 n twice) (omega arith)
-    ∙ ap some (exchanged-three n m stack n0 m0 nm ln lm)
+    let second : steps 1 code (stateAt (at + 1) once) ≡ some (stateAt (at + 2) twice) =
+    swap-at code (at + 1) m once o₂ (omega arith) hm (omega arith) (omega arith) ∙ ap (λ (k : ℕ). some (stateAt k twice)) (omega arith) in
+    let third : steps 1 code (stateAt (at + 2) twice) ≡ some (stateAt (at + 3) (exchanged n m stack)) =
+    swap-at code (at + 2) n twice o₃ (omega arith) hn (omega arith) (omega arith)
+    ∙ ap₂ (λ (k : ℕ) (s : List ℕ). some (stateAt k s)) (omega arith) (exchanged-three n m stack n0 m0 nm ln lm) in
+    steps-join 1 2 code (stateAt at stack) (stateAt (at + 1) once) (stateAt (at + 3) (exchanged n m stack))
+    (swap-at code at n stack o₁ (omega arith) hn ln fits)
+    (steps-join 1 1 code (stateAt (at + 1) once) (stateAt (at + 2) twice) (stateAt (at + 3) (exchanged n m stack)) second third)

@@ -3,7 +3,7 @@
 use Prim.Native.Nat.{ℕ, zero, suc, _+_, _≤_, _<_, suc-le-suc}
 use native.Mathlib.Omega.{arith}
 use mathlib.Core.Path.{_≡_, refl, sym, _∙_, ap}
-use mathlib.Core.Bool.{Bool, true, false, _&&_, _||_, true≢false, false≢true}
+use mathlib.Core.Bool.{Bool, true, false, _&&_, _||_, false≢true, and-eq-true-iff}
 use mathlib.Core.Logic.{_↔_}
 use mathlib.Core.List.{List, [], _∷_, _++_}
 use lib.Dec.{eqb, ltb}
@@ -12,12 +12,10 @@ use lib.Seq.{slice, take-take, take-suc}
 use borrow.Author.Tests.{eqb-true, eq-eqb, lt-ltb, le-ltb, ltb-true, ltb-false}
 use Rattle.units.specs.Reference.{leastSize}
 use Rattle.records.specs.Sections.{Section, mark, ops, bytes, reference}
-use Rattle.slices.specs.First.{leastFrom}
 use Rattle.layout.specs.Conditions.{sectionAt, someBelow, placesSome, placed, hasBytes, someBytes, bytesBetween, apartAt, sumOf}
 use Rattle.layout.proofs.Moves.{widthBy}
 use Rattle.layout.proofs.WidthRule.{least-pos}
-use Rattle.slices.proofs.First.{leastFrom-least}
-use Rattle.layout.proofs.Least.{none-below}
+use Rattle.layout.proofs.Least.{some-below}
 
 -- a section that places m is the mark m
 pub places-mark : (m : ℕ) (s : Section) → placesSome (eqb m) s ≡ true → s ≡ mark m
@@ -116,43 +114,44 @@ between-sums ss m j i l k e = some-bytes (slice (suc j) i ss) ∙ go (ltb 0 betw
     go true h = h ∙ sym (lt-ltb (leastBefore ss j) (leastBefore ss i) (omega (arith, ltb-true 0 between h, least-between ss m j i l k e)))
     go false h = h ∙ sym (le-ltb (leastBefore ss j) (leastBefore ss i) (omega (arith, ltb-false 0 between h, least-between ss m j i l k e)))
 
--- both of two tests hold
-and-both : (a b : Bool) → (a && b) ≡ true → (a ≡ true) × (b ≡ true)
-and-both true b h = (refl, h)
-and-both false b h = absurd (false≢true h)
+-- section i is a mark, an earlier section is that mark, and bytes stand between them
+abbrev pub Parted : List Section → ℕ → Type 0
+Parted ss i = (m : ℕ) × (j : ℕ) × (sectionAt ss i ≡ mark m) × (j < i) × (sectionAt ss j ≡ mark m) × (bytesBetween ss j i ≡ true)
+
+-- m is placed at j, with bytes between it and section i
+abbrev parted : List Section → ℕ → ℕ → ℕ → Bool
+parted ss i m j = placesSome (eqb m) (sectionAt ss j) && bytesBetween ss j i
+
+-- 9 holds of section i exactly so
+pub apart-parted : (ss : List Section) (i : ℕ) → (apartAt ss i ≡ true) ↔ Parted ss i
+unfolding apartAt
+apart-parted ss i = (there (sectionAt ss i) refl, back)
+  where
+    there : (x : Section) → sectionAt ss i ≡ x → placesSome (λ m. someBelow i (parted ss i m)) x ≡ true → Parted ss i
+    there (mark m) e h =
+        let q = some-below i (parted ss i m) .0 h in
+        let both = and-eq-true-iff (placesSome (eqb m) (sectionAt ss (q .0))) (bytesBetween ss (q .0) i) .0 (q .2) in
+        (m, q .0, e, q .1, places-mark m (sectionAt ss (q .0)) (both .0), both .1)
+    there (ops bs) e h = absurd (false≢true h)
+    there (bytes bs) e h = absurd (false≢true h)
+    there (reference r) e h = absurd (false≢true h)
+
+    back : Parted ss i → placesSome (λ m. someBelow i (parted ss i m)) (sectionAt ss i) ≡ true
+    back (m, j, e, k, at, between) = rw e (some-below i (parted ss i m) .1 (j, k, rw (at, eq-eqb m m refl) between))
 
 -- section i is a mark, an earlier section is that mark, and the sums of least sizes before them differ
 abbrev pub ApartBySums : List Section → ℕ → Type 0
 ApartBySums ss i =
     (m : ℕ) × (j : ℕ) × (sectionAt ss i ≡ mark m) × (j < i) × (sectionAt ss j ≡ mark m) × (leastBefore ss j < leastBefore ss i)
 
--- m is placed at j, with bytes between it and section i
-abbrev parted : List Section → ℕ → ℕ → ℕ → Bool
-parted ss i m j = placesSome (eqb m) (sectionAt ss j) && bytesBetween ss j i
-
--- a section that 9 holds of
-apart-there : (ss : List Section) (i : ℕ) → i < length ss → (x : Section) → sectionAt ss i ≡ x → placesSome (λ m. someBelow i (parted ss i m)) x ≡ true → ApartBySums ss i
-apart-there ss i l (mark m) e h =
-    let j : ℕ = leastFrom (parted ss i m) i 0 in
-    let k : j < i = ltb-true j i h in
-    let q = and-both (placesSome (eqb m) (sectionAt ss j)) (bytesBetween ss j i) (leastFrom-least (parted ss i m) i 0 .holds (omega arith)) in
-    let at : sectionAt ss j ≡ mark m = places-mark m (sectionAt ss j) (q .0) in
-    (m, j, e, k, at, ltb-true (leastBefore ss j) (leastBefore ss i) (sym (between-sums ss m j i k (omega arith) at) ∙ q .1))
-apart-there ss i l (ops bs) e h = absurd (false≢true h)
-apart-there ss i l (bytes bs) e h = absurd (false≢true h)
-apart-there ss i l (reference r) e h = absurd (false≢true h)
-
--- 9 holds of section i exactly so
+-- so too
 pub apart-sums : (ss : List Section) (i : ℕ) → i < length ss → (apartAt ss i ≡ true) ↔ ApartBySums ss i
-unfolding apartAt
-apart-sums ss i l = (apart-there ss i l (sectionAt ss i) refl, back)
+apart-sums ss i l = (λ h. there (apart-parted ss i .0 h), λ h. apart-parted ss i .1 (back h))
   where
-    back : ApartBySums ss i → placesSome (λ m. someBelow i (parted ss i m)) (sectionAt ss i) ≡ true
-    back (m, j, e, k, at, sums) = rw e (go (someBelow i (parted ss i m)) refl)
-      where
-        holds : parted ss i m j ≡ true
-        holds = rw (at, eq-eqb m m refl) (between-sums ss m j i k (omega arith) at ∙ lt-ltb (leastBefore ss j) (leastBefore ss i) sums)
+    there : Parted ss i → ApartBySums ss i
+    there (m, j, e, k, at, between) =
+        (m, j, e, k, at, ltb-true (leastBefore ss j) (leastBefore ss i) (sym (between-sums ss m j i k (omega arith) at) ∙ between))
 
-        go : (q : Bool) → someBelow i (parted ss i m) ≡ q → q ≡ true
-        go true h = refl
-        go false h = absurd (true≢false (sym holds ∙ none-below i (parted ss i m) j h k))
+    back : ApartBySums ss i → Parted ss i
+    back (m, j, e, k, at, sums) =
+        (m, j, e, k, at, between-sums ss m j i k (omega arith) at ∙ lt-ltb (leastBefore ss j) (leastBefore ss i) sums)

@@ -1,8 +1,8 @@
 -- Laws of the first section, and of some number below another, which are stated by `leastFrom`. Assumes nothing.
 use Prim.Native.Nat.{ℕ, _≤_, _<_}
 use native.Mathlib.Omega.{arith}
-use mathlib.Core.Path.{_≡_, refl, sym}
-use mathlib.Core.Bool.{Bool, true, false}
+use mathlib.Core.Path.{_≡_, refl, sym, _∙_}
+use mathlib.Core.Bool.{Bool, true, false, true≢false}
 use mathlib.Core.Logic.{_↔_, _⊎_, inl, inr}
 use mathlib.Core.List.{List}
 use lib.Dec.{ltb}
@@ -50,3 +50,16 @@ module _ (ss : List Section) (test : ℕ → Bool) where
 -- no number below n has a property
 pub none-below : (n : ℕ) (test : ℕ → Bool) (j : ℕ) → someBelow n test ≡ false → j < n → test j ≡ false
 none-below n test j h l = leastFrom-least test n 0 .none j (omega arith) (omega (arith, ltb-false (leastFrom test n 0) n h))
+
+-- some number below n has a property exactly when there is one
+pub some-below : (n : ℕ) (test : ℕ → Bool) → (someBelow n test ≡ true) ↔ ((j : ℕ) × (j < n) × (test j ≡ true))
+some-below n test = (there, λ q. go (someBelow n test) refl (q .0) (q .1) (q .2))
+  where
+    there : someBelow n test ≡ true → (j : ℕ) × (j < n) × (test j ≡ true)
+    there h =
+        let l : leastFrom test n 0 < n = ltb-true (leastFrom test n 0) n h in
+        (leastFrom test n 0, l, leastFrom-least test n 0 .holds (omega arith))
+
+    go : (b : Bool) → someBelow n test ≡ b → (j : ℕ) → j < n → test j ≡ true → b ≡ true
+    go true e j l h = refl
+    go false e j l h = absurd (true≢false (sym h ∙ none-below n test j e l))

@@ -12,5 +12,5 @@ pub mod Answers
 pub mod Settles
 pub mod Demand3
 pub mod Tight
-pub mod Hand
 pub mod Apart
+pub mod ConditionLaws

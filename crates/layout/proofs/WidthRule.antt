@@ -2,6 +2,7 @@
 use Prim.Native.Nat.{ℕ, _+_, _-_, _^_, _≤_, _<_}
 use native.Mathlib.Omega.{arith}
 use native.Mathlib.Nat.{lt-of-lt-of-le}
+use native.Mathlib.Decide.{ℕ-discrete}
 use mathlib.Core.Path.{_≡_, refl}
 use mathlib.Core.Bool.{Bool, true, false, cond}
 use mathlib.Core.Logic.{inl, inr}
@@ -134,6 +135,16 @@ least-growth Unsized false = omega arith
 -- n bytes, 1 to 4, that hold a value are at least its held bytes
 held-least : (n v : ℕ) → 1 ≤ n → n ≤ 4 → v < 256 ^ n → heldBytes v ≤ n
 held-least n v l m h = held-power n v l m (lt-of-lt-of-le h (pow256-mono m)) .1 h
+
+-- 'padded': a wider unsized reference, of at most 5 bytes if pushed and 4 if raw, holds the value too
+pub padded-holds : (p : Bool) (v w w′ : ℕ) → HoldsIn Unsized p v w → w ≤ w′ → w′ ≤ 1 + growth Unsized p → HoldsIn Unsized p v w′
+padded-holds false v w w′ h l m = (omega (arith, h .0), m, lt-of-lt-of-le (h .2) (pow256-mono l))
+padded-holds true v w w′ (inl k) l m = go (ℕ-discrete w′ 1)
+  where
+    go : Dec (w′ ≡ 1) → HoldsIn Unsized true v w′
+    go (yes e) = inl (e, k .1)
+    go (no e) = inr (omega (arith, k .0), m, lt-of-lt-of-le (omega (arith, k .1)) (pow256-mono {i = 1} (omega (arith, k .0))))
+padded-holds true v w w′ (inr k) l m = inr (omega (arith, k .0), m, lt-of-lt-of-le (k .2) (pow256-mono (omega arith)))
 
 -- a width that holds a value is at least its size
 holds-width : (z : SetSize) (p : Bool) (v w : ℕ) → HoldsIn z p v w → width z p v ≤ w

@@ -77,7 +77,7 @@ module _ (w answer : ℕ) (bytes words : List ℕ) (refused : 1 ≤ numberIn ans
       third-fails (leb (answer % 2 ^ 32) (length bytes)) (leb (answer % 2 ^ 32) maxBytes) (leb (answer / 2 ^ 32) maxSections) (leb (w * (answer / 2 ^ 32)) (length words))
       (lt-leb (answer / 2 ^ 32) maxSections (omega arith))
 
-  -- so every later call that tests the store answers 6 at section 0: a caller may look at the last answer alone
+  -- so every later call that tests the store finds 6 at section 0; 1, 2, 3 and 255 come before that test, and `clear` has none
   pub refused-last : lastSoundness w (storeIn answer bytes words) ≡ Damaged 0
   unfolding lastSoundness badCountBuilding
   refused-last = rw refused-counts

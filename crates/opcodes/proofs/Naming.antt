@@ -12,7 +12,7 @@ use lib.Dec.{T, leb, eqb}
 use borrow.Author.Tests.{leb-true}
 use lib.Text.{eqt, eqt→eq}
 use Rattle.opcodes.specs.Text.{asBytes}
-use Rattle.opcodes.specs.Names.{lookup, opNames, unknown, opName, longestName, padded}
+use Rattle.opcodes.specs.Names.{lookup, opNames, opName, longestName, padded}
 use Rattle.opcodes.specs.declared.OpName.{OpName}
 
 -- the arm of one opcode
@@ -61,8 +61,8 @@ holds true e = tt
 holds false e = let z : _≡_ {A = ℕ} 0 1 = cc in absurd (omega arith)
 
 -- the arm of the opcodes from a on that have no name
-pub unnamed : (op a n : ℕ) (r : OpName) → allFrom isUnknown a n ≡ true → a ≤ op → op < a + n → r ≡ padded unknown → r ≡ padded (opName op)
-unfolding opName unknown
+pub unnamed : (op a n : ℕ) (r : OpName) → allFrom isUnknown a n ≡ true → a ≤ op → op < a + n → r ≡ padded (asBytes "UNKNOWN") → r ≡ padded (opName op)
+unfolding opName
 unnamed op a n r e l h u =
     let same = eqt→eq (lookup op opNames "UNKNOWN") "UNKNOWN" (holds (isUnknown op) (all-at isUnknown a n op e l h)) in
     rw same u

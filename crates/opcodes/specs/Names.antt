@@ -48,11 +48,7 @@ opNames =
     (0xf0, "CREATE") ∷ (0xf1, "CALL") ∷ (0xf2, "CALLCODE") ∷ (0xf3, "RETURN") ∷ (0xf4, "DELEGATECALL") ∷ (0xf5, "CREATE2") ∷
     (0xfa, "STATICCALL") ∷ (0xfd, "REVERT") ∷ (0xfe, "INVALID") ∷ (0xff, "SELFDESTRUCT") ∷ []
 
--- the name of every other byte
-unfoldable pub unknown : List ℕ
-unknown = asBytes "UNKNOWN"
-
--- `op::name`
+-- `op::name`; every other byte is UNKNOWN
 unfoldable pub opName : ℕ → List ℕ
 opName op = asBytes (lookup op opNames "UNKNOWN")
 

@@ -1,8 +1,10 @@
-// Document 01, module 5: the names of op.rs for every byte, a function for each of its groups. A name stands in an array, followed by
-// zeros, with its length beside it: a byte string can't be an answer yet.
+// Document 01, module 5: the names of op.rs for every byte, a function for each of its groups. The texts are constants (text.rt): a
+// byte string in an arm is a reference to be read, and the proof of sixteen such arms takes four times as long.
 ghost use mathlib.Core.Path.{_≡_};
 ghost use Prim.Native.Nat.{_≤_, _<_};
-ghost use Rattle.opcodes.specs.Names.{opName, unknown, padded};
+ghost use Rattle.opcodes.specs.Names.{opName, padded};
+
+mod text;
 
 // The Rust's &'static str: a name's bytes and then zeros, and how many bytes it has.
 pub struct OpName(pub [u8; 14], pub usize);
@@ -23,17 +25,10 @@ pub fn name(opcode: u8) -> OpName
         0x80..=0x8f => dup(opcode),
         0x90..=0x9f => swap(opcode),
         0xa0..=0xaf => log(opcode),
-        0xb0..=0xef => unknown_name(),
+        0xb0..=0xef => text::UNKNOWN,
         0xf0..=0xf9 => creation(opcode),
         0xfa..=0xff => ending(opcode),
     }
-}
-
-// What the other bytes are called.
-fn unknown_name() -> OpName
-    ensures { λ r. ⌜ r ≡ padded unknown ⌝ }
-{
-    OpName([85, 78, 75, 78, 79, 87, 78, 0, 0, 0, 0, 0, 0, 0], 7)
 }
 
 // Basic arithmetic.
@@ -42,31 +37,19 @@ fn arithmetic(opcode: u8) -> OpName
     ensures { λ r. ⌜ r ≡ padded (opName opcode) ⌝ }
 {
     match opcode {
-        // STOP
-        0x00 => OpName([83, 84, 79, 80, 0, 0, 0, 0, 0, 0, 0, 0, 0, 0], 4),
-        // ADD
-        0x01 => OpName([65, 68, 68, 0, 0, 0, 0, 0, 0, 0, 0, 0, 0, 0], 3),
-        // MUL
-        0x02 => OpName([77, 85, 76, 0, 0, 0, 0, 0, 0, 0, 0, 0, 0, 0], 3),
-        // SUB
-        0x03 => OpName([83, 85, 66, 0, 0, 0, 0, 0, 0, 0, 0, 0, 0, 0], 3),
-        // DIV
-        0x04 => OpName([68, 73, 86, 0, 0, 0, 0, 0, 0, 0, 0, 0, 0, 0], 3),
-        // SDIV
-        0x05 => OpName([83, 68, 73, 86, 0, 0, 0, 0, 0, 0, 0, 0, 0, 0], 4),
-        // MOD
-        0x06 => OpName([77, 79, 68, 0, 0, 0, 0, 0, 0, 0, 0, 0, 0, 0], 3),
-        // SMOD
-        0x07 => OpName([83, 77, 79, 68, 0, 0, 0, 0, 0, 0, 0, 0, 0, 0], 4),
-        // ADDMOD
-        0x08 => OpName([65, 68, 68, 77, 79, 68, 0, 0, 0, 0, 0, 0, 0, 0], 6),
-        // MULMOD
-        0x09 => OpName([77, 85, 76, 77, 79, 68, 0, 0, 0, 0, 0, 0, 0, 0], 6),
-        // EXP
-        0x0a => OpName([69, 88, 80, 0, 0, 0, 0, 0, 0, 0, 0, 0, 0, 0], 3),
-        // SIGNEXTEND
-        0x0b => OpName([83, 73, 71, 78, 69, 88, 84, 69, 78, 68, 0, 0, 0, 0], 10),
-        _ => unknown_name(),
+        0x00 => text::STOP,
+        0x01 => text::ADD,
+        0x02 => text::MUL,
+        0x03 => text::SUB,
+        0x04 => text::DIV,
+        0x05 => text::SDIV,
+        0x06 => text::MOD,
+        0x07 => text::SMOD,
+        0x08 => text::ADDMOD,
+        0x09 => text::MULMOD,
+        0x0a => text::EXP,
+        0x0b => text::SIGNEXTEND,
+        _ => text::UNKNOWN,
     }
 }
 
@@ -76,37 +59,22 @@ fn logic(opcode: u8) -> OpName
     ensures { λ r. ⌜ r ≡ padded (opName opcode) ⌝ }
 {
     match opcode {
-        // LT
-        0x10 => OpName([76, 84, 0, 0, 0, 0, 0, 0, 0, 0, 0, 0, 0, 0], 2),
-        // GT
-        0x11 => OpName([71, 84, 0, 0, 0, 0, 0, 0, 0, 0, 0, 0, 0, 0], 2),
-        // SLT
-        0x12 => OpName([83, 76, 84, 0, 0, 0, 0, 0, 0, 0, 0, 0, 0, 0], 3),
-        // SGT
-        0x13 => OpName([83, 71, 84, 0, 0, 0, 0, 0, 0, 0, 0, 0, 0, 0], 3),
-        // EQ
-        0x14 => OpName([69, 81, 0, 0, 0, 0, 0, 0, 0, 0, 0, 0, 0, 0], 2),
-        // ISZERO
-        0x15 => OpName([73, 83, 90, 69, 82, 79, 0, 0, 0, 0, 0, 0, 0, 0], 6),
-        // AND
-        0x16 => OpName([65, 78, 68, 0, 0, 0, 0, 0, 0, 0, 0, 0, 0, 0], 3),
-        // OR
-        0x17 => OpName([79, 82, 0, 0, 0, 0, 0, 0, 0, 0, 0, 0, 0, 0], 2),
-        // XOR
-        0x18 => OpName([88, 79, 82, 0, 0, 0, 0, 0, 0, 0, 0, 0, 0, 0], 3),
-        // NOT
-        0x19 => OpName([78, 79, 84, 0, 0, 0, 0, 0, 0, 0, 0, 0, 0, 0], 3),
-        // BYTE
-        0x1a => OpName([66, 89, 84, 69, 0, 0, 0, 0, 0, 0, 0, 0, 0, 0], 4),
-        // SHL
-        0x1b => OpName([83, 72, 76, 0, 0, 0, 0, 0, 0, 0, 0, 0, 0, 0], 3),
-        // SHR
-        0x1c => OpName([83, 72, 82, 0, 0, 0, 0, 0, 0, 0, 0, 0, 0, 0], 3),
-        // SAR
-        0x1d => OpName([83, 65, 82, 0, 0, 0, 0, 0, 0, 0, 0, 0, 0, 0], 3),
-        // CLZ
-        0x1e => OpName([67, 76, 90, 0, 0, 0, 0, 0, 0, 0, 0, 0, 0, 0], 3),
-        _ => unknown_name(),
+        0x10 => text::LT,
+        0x11 => text::GT,
+        0x12 => text::SLT,
+        0x13 => text::SGT,
+        0x14 => text::EQ,
+        0x15 => text::ISZERO,
+        0x16 => text::AND,
+        0x17 => text::OR,
+        0x18 => text::XOR,
+        0x19 => text::NOT,
+        0x1a => text::BYTE,
+        0x1b => text::SHL,
+        0x1c => text::SHR,
+        0x1d => text::SAR,
+        0x1e => text::CLZ,
+        _ => text::UNKNOWN,
     }
 }
 
@@ -116,9 +84,8 @@ fn keccak(opcode: u8) -> OpName
     ensures { λ r. ⌜ r ≡ padded (opName opcode) ⌝ }
 {
     match opcode {
-        // KECCAK256
-        0x20 => OpName([75, 69, 67, 67, 65, 75, 50, 53, 54, 0, 0, 0, 0, 0], 9),
-        _ => unknown_name(),
+        0x20 => text::KECCAK256,
+        _ => text::UNKNOWN,
     }
 }
 
@@ -128,39 +95,23 @@ fn call_context(opcode: u8) -> OpName
     ensures { λ r. ⌜ r ≡ padded (opName opcode) ⌝ }
 {
     match opcode {
-        // ADDRESS
-        0x30 => OpName([65, 68, 68, 82, 69, 83, 83, 0, 0, 0, 0, 0, 0, 0], 7),
-        // BALANCE
-        0x31 => OpName([66, 65, 76, 65, 78, 67, 69, 0, 0, 0, 0, 0, 0, 0], 7),
-        // ORIGIN
-        0x32 => OpName([79, 82, 73, 71, 73, 78, 0, 0, 0, 0, 0, 0, 0, 0], 6),
-        // CALLER
-        0x33 => OpName([67, 65, 76, 76, 69, 82, 0, 0, 0, 0, 0, 0, 0, 0], 6),
-        // CALLVALUE
-        0x34 => OpName([67, 65, 76, 76, 86, 65, 76, 85, 69, 0, 0, 0, 0, 0], 9),
-        // CALLDATALOAD
-        0x35 => OpName([67, 65, 76, 76, 68, 65, 84, 65, 76, 79, 65, 68, 0, 0], 12),
-        // CALLDATASIZE
-        0x36 => OpName([67, 65, 76, 76, 68, 65, 84, 65, 83, 73, 90, 69, 0, 0], 12),
-        // CALLDATACOPY
-        0x37 => OpName([67, 65, 76, 76, 68, 65, 84, 65, 67, 79, 80, 89, 0, 0], 12),
-        // CODESIZE
-        0x38 => OpName([67, 79, 68, 69, 83, 73, 90, 69, 0, 0, 0, 0, 0, 0], 8),
-        // CODECOPY
-        0x39 => OpName([67, 79, 68, 69, 67, 79, 80, 89, 0, 0, 0, 0, 0, 0], 8),
-        // GASPRICE
-        0x3a => OpName([71, 65, 83, 80, 82, 73, 67, 69, 0, 0, 0, 0, 0, 0], 8),
-        // EXTCODESIZE
-        0x3b => OpName([69, 88, 84, 67, 79, 68, 69, 83, 73, 90, 69, 0, 0, 0], 11),
-        // EXTCODECOPY
-        0x3c => OpName([69, 88, 84, 67, 79, 68, 69, 67, 79, 80, 89, 0, 0, 0], 11),
-        // RETURNDATASIZE
-        0x3d => OpName([82, 69, 84, 85, 82, 78, 68, 65, 84, 65, 83, 73, 90, 69], 14),
-        // RETURNDATACOPY
-        0x3e => OpName([82, 69, 84, 85, 82, 78, 68, 65, 84, 65, 67, 79, 80, 89], 14),
-        // EXTCODEHASH
-        0x3f => OpName([69, 88, 84, 67, 79, 68, 69, 72, 65, 83, 72, 0, 0, 0], 11),
-        _ => unknown_name(),
+        0x30 => text::ADDRESS,
+        0x31 => text::BALANCE,
+        0x32 => text::ORIGIN,
+        0x33 => text::CALLER,
+        0x34 => text::CALLVALUE,
+        0x35 => text::CALLDATALOAD,
+        0x36 => text::CALLDATASIZE,
+        0x37 => text::CALLDATACOPY,
+        0x38 => text::CODESIZE,
+        0x39 => text::CODECOPY,
+        0x3a => text::GASPRICE,
+        0x3b => text::EXTCODESIZE,
+        0x3c => text::EXTCODECOPY,
+        0x3d => text::RETURNDATASIZE,
+        0x3e => text::RETURNDATACOPY,
+        0x3f => text::EXTCODEHASH,
+        _ => text::UNKNOWN,
     }
 }
 
@@ -170,29 +121,18 @@ fn block_context(opcode: u8) -> OpName
     ensures { λ r. ⌜ r ≡ padded (opName opcode) ⌝ }
 {
     match opcode {
-        // BLOCKHASH
-        0x40 => OpName([66, 76, 79, 67, 75, 72, 65, 83, 72, 0, 0, 0, 0, 0], 9),
-        // COINBASE
-        0x41 => OpName([67, 79, 73, 78, 66, 65, 83, 69, 0, 0, 0, 0, 0, 0], 8),
-        // TIMESTAMP
-        0x42 => OpName([84, 73, 77, 69, 83, 84, 65, 77, 80, 0, 0, 0, 0, 0], 9),
-        // NUMBER
-        0x43 => OpName([78, 85, 77, 66, 69, 82, 0, 0, 0, 0, 0, 0, 0, 0], 6),
-        // PREVRANDAO
-        0x44 => OpName([80, 82, 69, 86, 82, 65, 78, 68, 65, 79, 0, 0, 0, 0], 10),
-        // GASLIMIT
-        0x45 => OpName([71, 65, 83, 76, 73, 77, 73, 84, 0, 0, 0, 0, 0, 0], 8),
-        // CHAINID
-        0x46 => OpName([67, 72, 65, 73, 78, 73, 68, 0, 0, 0, 0, 0, 0, 0], 7),
-        // SELFBALANCE
-        0x47 => OpName([83, 69, 76, 70, 66, 65, 76, 65, 78, 67, 69, 0, 0, 0], 11),
-        // BASEFEE
-        0x48 => OpName([66, 65, 83, 69, 70, 69, 69, 0, 0, 0, 0, 0, 0, 0], 7),
-        // BLOBHASH
-        0x49 => OpName([66, 76, 79, 66, 72, 65, 83, 72, 0, 0, 0, 0, 0, 0], 8),
-        // BLOBBASEFEE
-        0x4a => OpName([66, 76, 79, 66, 66, 65, 83, 69, 70, 69, 69, 0, 0, 0], 11),
-        _ => unknown_name(),
+        0x40 => text::BLOCKHASH,
+        0x41 => text::COINBASE,
+        0x42 => text::TIMESTAMP,
+        0x43 => text::NUMBER,
+        0x44 => text::PREVRANDAO,
+        0x45 => text::GASLIMIT,
+        0x46 => text::CHAINID,
+        0x47 => text::SELFBALANCE,
+        0x48 => text::BASEFEE,
+        0x49 => text::BLOBHASH,
+        0x4a => text::BLOBBASEFEE,
+        _ => text::UNKNOWN,
     }
 }
 
@@ -202,39 +142,23 @@ fn control(opcode: u8) -> OpName
     ensures { λ r. ⌜ r ≡ padded (opName opcode) ⌝ }
 {
     match opcode {
-        // POP
-        0x50 => OpName([80, 79, 80, 0, 0, 0, 0, 0, 0, 0, 0, 0, 0, 0], 3),
-        // MLOAD
-        0x51 => OpName([77, 76, 79, 65, 68, 0, 0, 0, 0, 0, 0, 0, 0, 0], 5),
-        // MSTORE
-        0x52 => OpName([77, 83, 84, 79, 82, 69, 0, 0, 0, 0, 0, 0, 0, 0], 6),
-        // MSTORE8
-        0x53 => OpName([77, 83, 84, 79, 82, 69, 56, 0, 0, 0, 0, 0, 0, 0], 7),
-        // SLOAD
-        0x54 => OpName([83, 76, 79, 65, 68, 0, 0, 0, 0, 0, 0, 0, 0, 0], 5),
-        // SSTORE
-        0x55 => OpName([83, 83, 84, 79, 82, 69, 0, 0, 0, 0, 0, 0, 0, 0], 6),
-        // JUMP
-        0x56 => OpName([74, 85, 77, 80, 0, 0, 0, 0, 0, 0, 0, 0, 0, 0], 4),
-        // JUMPI
-        0x57 => OpName([74, 85, 77, 80, 73, 0, 0, 0, 0, 0, 0, 0, 0, 0], 5),
-        // PC
-        0x58 => OpName([80, 67, 0, 0, 0, 0, 0, 0, 0, 0, 0, 0, 0, 0], 2),
-        // MSIZE
-        0x59 => OpName([77, 83, 73, 90, 69, 0, 0, 0, 0, 0, 0, 0, 0, 0], 5),
-        // GAS
-        0x5a => OpName([71, 65, 83, 0, 0, 0, 0, 0, 0, 0, 0, 0, 0, 0], 3),
-        // JUMPDEST
-        0x5b => OpName([74, 85, 77, 80, 68, 69, 83, 84, 0, 0, 0, 0, 0, 0], 8),
-        // TLOAD
-        0x5c => OpName([84, 76, 79, 65, 68, 0, 0, 0, 0, 0, 0, 0, 0, 0], 5),
-        // TSTORE
-        0x5d => OpName([84, 83, 84, 79, 82, 69, 0, 0, 0, 0, 0, 0, 0, 0], 6),
-        // MCOPY
-        0x5e => OpName([77, 67, 79, 80, 89, 0, 0, 0, 0, 0, 0, 0, 0, 0], 5),
-        // PUSH0
-        0x5f => OpName([80, 85, 83, 72, 48, 0, 0, 0, 0, 0, 0, 0, 0, 0], 5),
-        _ => unknown_name(),
+        0x50 => text::POP,
+        0x51 => text::MLOAD,
+        0x52 => text::MSTORE,
+        0x53 => text::MSTORE8,
+        0x54 => text::SLOAD,
+        0x55 => text::SSTORE,
+        0x56 => text::JUMP,
+        0x57 => text::JUMPI,
+        0x58 => text::PC,
+        0x59 => text::MSIZE,
+        0x5a => text::GAS,
+        0x5b => text::JUMPDEST,
+        0x5c => text::TLOAD,
+        0x5d => text::TSTORE,
+        0x5e => text::MCOPY,
+        0x5f => text::PUSH0,
+        _ => text::UNKNOWN,
     }
 }
 
@@ -244,39 +168,23 @@ fn push_low(opcode: u8) -> OpName
     ensures { λ r. ⌜ r ≡ padded (opName opcode) ⌝ }
 {
     match opcode {
-        // PUSH1
-        0x60 => OpName([80, 85, 83, 72, 49, 0, 0, 0, 0, 0, 0, 0, 0, 0], 5),
-        // PUSH2
-        0x61 => OpName([80, 85, 83, 72, 50, 0, 0, 0, 0, 0, 0, 0, 0, 0], 5),
-        // PUSH3
-        0x62 => OpName([80, 85, 83, 72, 51, 0, 0, 0, 0, 0, 0, 0, 0, 0], 5),
-        // PUSH4
-        0x63 => OpName([80, 85, 83, 72, 52, 0, 0, 0, 0, 0, 0, 0, 0, 0], 5),
-        // PUSH5
-        0x64 => OpName([80, 85, 83, 72, 53, 0, 0, 0, 0, 0, 0, 0, 0, 0], 5),
-        // PUSH6
-        0x65 => OpName([80, 85, 83, 72, 54, 0, 0, 0, 0, 0, 0, 0, 0, 0], 5),
-        // PUSH7
-        0x66 => OpName([80, 85, 83, 72, 55, 0, 0, 0, 0, 0, 0, 0, 0, 0], 5),
-        // PUSH8
-        0x67 => OpName([80, 85, 83, 72, 56, 0, 0, 0, 0, 0, 0, 0, 0, 0], 5),
-        // PUSH9
-        0x68 => OpName([80, 85, 83, 72, 57, 0, 0, 0, 0, 0, 0, 0, 0, 0], 5),
-        // PUSH10
-        0x69 => OpName([80, 85, 83, 72, 49, 48, 0, 0, 0, 0, 0, 0, 0, 0], 6),
-        // PUSH11
-        0x6a => OpName([80, 85, 83, 72, 49, 49, 0, 0, 0, 0, 0, 0, 0, 0], 6),
-        // PUSH12
-        0x6b => OpName([80, 85, 83, 72, 49, 50, 0, 0, 0, 0, 0, 0, 0, 0], 6),
-        // PUSH13
-        0x6c => OpName([80, 85, 83, 72, 49, 51, 0, 0, 0, 0, 0, 0, 0, 0], 6),
-        // PUSH14
-        0x6d => OpName([80, 85, 83, 72, 49, 52, 0, 0, 0, 0, 0, 0, 0, 0], 6),
-        // PUSH15
-        0x6e => OpName([80, 85, 83, 72, 49, 53, 0, 0, 0, 0, 0, 0, 0, 0], 6),
-        // PUSH16
-        0x6f => OpName([80, 85, 83, 72, 49, 54, 0, 0, 0, 0, 0, 0, 0, 0], 6),
-        _ => unknown_name(),
+        0x60 => text::PUSH1,
+        0x61 => text::PUSH2,
+        0x62 => text::PUSH3,
+        0x63 => text::PUSH4,
+        0x64 => text::PUSH5,
+        0x65 => text::PUSH6,
+        0x66 => text::PUSH7,
+        0x67 => text::PUSH8,
+        0x68 => text::PUSH9,
+        0x69 => text::PUSH10,
+        0x6a => text::PUSH11,
+        0x6b => text::PUSH12,
+        0x6c => text::PUSH13,
+        0x6d => text::PUSH14,
+        0x6e => text::PUSH15,
+        0x6f => text::PUSH16,
+        _ => text::UNKNOWN,
     }
 }
 
@@ -286,39 +194,23 @@ fn push_high(opcode: u8) -> OpName
     ensures { λ r. ⌜ r ≡ padded (opName opcode) ⌝ }
 {
     match opcode {
-        // PUSH17
-        0x70 => OpName([80, 85, 83, 72, 49, 55, 0, 0, 0, 0, 0, 0, 0, 0], 6),
-        // PUSH18
-        0x71 => OpName([80, 85, 83, 72, 49, 56, 0, 0, 0, 0, 0, 0, 0, 0], 6),
-        // PUSH19
-        0x72 => OpName([80, 85, 83, 72, 49, 57, 0, 0, 0, 0, 0, 0, 0, 0], 6),
-        // PUSH20
-        0x73 => OpName([80, 85, 83, 72, 50, 48, 0, 0, 0, 0, 0, 0, 0, 0], 6),
-        // PUSH21
-        0x74 => OpName([80, 85, 83, 72, 50, 49, 0, 0, 0, 0, 0, 0, 0, 0], 6),
-        // PUSH22
-        0x75 => OpName([80, 85, 83, 72, 50, 50, 0, 0, 0, 0, 0, 0, 0, 0], 6),
-        // PUSH23
-        0x76 => OpName([80, 85, 83, 72, 50, 51, 0, 0, 0, 0, 0, 0, 0, 0], 6),
-        // PUSH24
-        0x77 => OpName([80, 85, 83, 72, 50, 52, 0, 0, 0, 0, 0, 0, 0, 0], 6),
-        // PUSH25
-        0x78 => OpName([80, 85, 83, 72, 50, 53, 0, 0, 0, 0, 0, 0, 0, 0], 6),
-        // PUSH26
-        0x79 => OpName([80, 85, 83, 72, 50, 54, 0, 0, 0, 0, 0, 0, 0, 0], 6),
-        // PUSH27
-        0x7a => OpName([80, 85, 83, 72, 50, 55, 0, 0, 0, 0, 0, 0, 0, 0], 6),
-        // PUSH28
-        0x7b => OpName([80, 85, 83, 72, 50, 56, 0, 0, 0, 0, 0, 0, 0, 0], 6),
-        // PUSH29
-        0x7c => OpName([80, 85, 83, 72, 50, 57, 0, 0, 0, 0, 0, 0, 0, 0], 6),
-        // PUSH30
-        0x7d => OpName([80, 85, 83, 72, 51, 48, 0, 0, 0, 0, 0, 0, 0, 0], 6),
-        // PUSH31
-        0x7e => OpName([80, 85, 83, 72, 51, 49, 0, 0, 0, 0, 0, 0, 0, 0], 6),
-        // PUSH32
-        0x7f => OpName([80, 85, 83, 72, 51, 50, 0, 0, 0, 0, 0, 0, 0, 0], 6),
-        _ => unknown_name(),
+        0x70 => text::PUSH17,
+        0x71 => text::PUSH18,
+        0x72 => text::PUSH19,
+        0x73 => text::PUSH20,
+        0x74 => text::PUSH21,
+        0x75 => text::PUSH22,
+        0x76 => text::PUSH23,
+        0x77 => text::PUSH24,
+        0x78 => text::PUSH25,
+        0x79 => text::PUSH26,
+        0x7a => text::PUSH27,
+        0x7b => text::PUSH28,
+        0x7c => text::PUSH29,
+        0x7d => text::PUSH30,
+        0x7e => text::PUSH31,
+        0x7f => text::PUSH32,
+        _ => text::UNKNOWN,
     }
 }
 
@@ -328,39 +220,23 @@ fn dup(opcode: u8) -> OpName
     ensures { λ r. ⌜ r ≡ padded (opName opcode) ⌝ }
 {
     match opcode {
-        // DUP1
-        0x80 => OpName([68, 85, 80, 49, 0, 0, 0, 0, 0, 0, 0, 0, 0, 0], 4),
-        // DUP2
-        0x81 => OpName([68, 85, 80, 50, 0, 0, 0, 0, 0, 0, 0, 0, 0, 0], 4),
-        // DUP3
-        0x82 => OpName([68, 85, 80, 51, 0, 0, 0, 0, 0, 0, 0, 0, 0, 0], 4),
-        // DUP4
-        0x83 => OpName([68, 85, 80, 52, 0, 0, 0, 0, 0, 0, 0, 0, 0, 0], 4),
-        // DUP5
-        0x84 => OpName([68, 85, 80, 53, 0, 0, 0, 0, 0, 0, 0, 0, 0, 0], 4),
-        // DUP6
-        0x85 => OpName([68, 85, 80, 54, 0, 0, 0, 0, 0, 0, 0, 0, 0, 0], 4),
-        // DUP7
-        0x86 => OpName([68, 85, 80, 55, 0, 0, 0, 0, 0, 0, 0, 0, 0, 0], 4),
-        // DUP8
-        0x87 => OpName([68, 85, 80, 56, 0, 0, 0, 0, 0, 0, 0, 0, 0, 0], 4),
-        // DUP9
-        0x88 => OpName([68, 85, 80, 57, 0, 0, 0, 0, 0, 0, 0, 0, 0, 0], 4),
-        // DUP10
-        0x89 => OpName([68, 85, 80, 49, 48, 0, 0, 0, 0, 0, 0, 0, 0, 0], 5),
-        // DUP11
-        0x8a => OpName([68, 85, 80, 49, 49, 0, 0, 0, 0, 0, 0, 0, 0, 0], 5),
-        // DUP12
-        0x8b => OpName([68, 85, 80, 49, 50, 0, 0, 0, 0, 0, 0, 0, 0, 0], 5),
-        // DUP13
-        0x8c => OpName([68, 85, 80, 49, 51, 0, 0, 0, 0, 0, 0, 0, 0, 0], 5),
-        // DUP14
-        0x8d => OpName([68, 85, 80, 49, 52, 0, 0, 0, 0, 0, 0, 0, 0, 0], 5),
-        // DUP15
-        0x8e => OpName([68, 85, 80, 49, 53, 0, 0, 0, 0, 0, 0, 0, 0, 0], 5),
-        // DUP16
-        0x8f => OpName([68, 85, 80, 49, 54, 0, 0, 0, 0, 0, 0, 0, 0, 0], 5),
-        _ => unknown_name(),
+        0x80 => text::DUP1,
+        0x81 => text::DUP2,
+        0x82 => text::DUP3,
+        0x83 => text::DUP4,
+        0x84 => text::DUP5,
+        0x85 => text::DUP6,
+        0x86 => text::DUP7,
+        0x87 => text::DUP8,
+        0x88 => text::DUP9,
+        0x89 => text::DUP10,
+        0x8a => text::DUP11,
+        0x8b => text::DUP12,
+        0x8c => text::DUP13,
+        0x8d => text::DUP14,
+        0x8e => text::DUP15,
+        0x8f => text::DUP16,
+        _ => text::UNKNOWN,
     }
 }
 
@@ -370,39 +246,23 @@ fn swap(opcode: u8) -> OpName
     ensures { λ r. ⌜ r ≡ padded (opName opcode) ⌝ }
 {
     match opcode {
-        // SWAP1
-        0x90 => OpName([83, 87, 65, 80, 49, 0, 0, 0, 0, 0, 0, 0, 0, 0], 5),
-        // SWAP2
-        0x91 => OpName([83, 87, 65, 80, 50, 0, 0, 0, 0, 0, 0, 0, 0, 0], 5),
-        // SWAP3
-        0x92 => OpName([83, 87, 65, 80, 51, 0, 0, 0, 0, 0, 0, 0, 0, 0], 5),
-        // SWAP4
-        0x93 => OpName([83, 87, 65, 80, 52, 0, 0, 0, 0, 0, 0, 0, 0, 0], 5),
-        // SWAP5
-        0x94 => OpName([83, 87, 65, 80, 53, 0, 0, 0, 0, 0, 0, 0, 0, 0], 5),
-        // SWAP6
-        0x95 => OpName([83, 87, 65, 80, 54, 0, 0, 0, 0, 0, 0, 0, 0, 0], 5),
-        // SWAP7
-        0x96 => OpName([83, 87, 65, 80, 55, 0, 0, 0, 0, 0, 0, 0, 0, 0], 5),
-        // SWAP8
-        0x97 => OpName([83, 87, 65, 80, 56, 0, 0, 0, 0, 0, 0, 0, 0, 0], 5),
-        // SWAP9
-        0x98 => OpName([83, 87, 65, 80, 57, 0, 0, 0, 0, 0, 0, 0, 0, 0], 5),
-        // SWAP10
-        0x99 => OpName([83, 87, 65, 80, 49, 48, 0, 0, 0, 0, 0, 0, 0, 0], 6),
-        // SWAP11
-        0x9a => OpName([83, 87, 65, 80, 49, 49, 0, 0, 0, 0, 0, 0, 0, 0], 6),
-        // SWAP12
-        0x9b => OpName([83, 87, 65, 80, 49, 50, 0, 0, 0, 0, 0, 0, 0, 0], 6),
-        // SWAP13
-        0x9c => OpName([83, 87, 65, 80, 49, 51, 0, 0, 0, 0, 0, 0, 0, 0], 6),
-        // SWAP14
-        0x9d => OpName([83, 87, 65, 80, 49, 52, 0, 0, 0, 0, 0, 0, 0, 0], 6),
-        // SWAP15
-        0x9e => OpName([83, 87, 65, 80, 49, 53, 0, 0, 0, 0, 0, 0, 0, 0], 6),
-        // SWAP16
-        0x9f => OpName([83, 87, 65, 80, 49, 54, 0, 0, 0, 0, 0, 0, 0, 0], 6),
-        _ => unknown_name(),
+        0x90 => text::SWAP1,
+        0x91 => text::SWAP2,
+        0x92 => text::SWAP3,
+        0x93 => text::SWAP4,
+        0x94 => text::SWAP5,
+        0x95 => text::SWAP6,
+        0x96 => text::SWAP7,
+        0x97 => text::SWAP8,
+        0x98 => text::SWAP9,
+        0x99 => text::SWAP10,
+        0x9a => text::SWAP11,
+        0x9b => text::SWAP12,
+        0x9c => text::SWAP13,
+        0x9d => text::SWAP14,
+        0x9e => text::SWAP15,
+        0x9f => text::SWAP16,
+        _ => text::UNKNOWN,
     }
 }
 
@@ -412,17 +272,12 @@ fn log(opcode: u8) -> OpName
     ensures { λ r. ⌜ r ≡ padded (opName opcode) ⌝ }
 {
     match opcode {
-        // LOG0
-        0xa0 => OpName([76, 79, 71, 48, 0, 0, 0, 0, 0, 0, 0, 0, 0, 0], 4),
-        // LOG1
-        0xa1 => OpName([76, 79, 71, 49, 0, 0, 0, 0, 0, 0, 0, 0, 0, 0], 4),
-        // LOG2
-        0xa2 => OpName([76, 79, 71, 50, 0, 0, 0, 0, 0, 0, 0, 0, 0, 0], 4),
-        // LOG3
-        0xa3 => OpName([76, 79, 71, 51, 0, 0, 0, 0, 0, 0, 0, 0, 0, 0], 4),
-        // LOG4
-        0xa4 => OpName([76, 79, 71, 52, 0, 0, 0, 0, 0, 0, 0, 0, 0, 0], 4),
-        _ => unknown_name(),
+        0xa0 => text::LOG0,
+        0xa1 => text::LOG1,
+        0xa2 => text::LOG2,
+        0xa3 => text::LOG3,
+        0xa4 => text::LOG4,
+        _ => text::UNKNOWN,
     }
 }
 
@@ -432,19 +287,13 @@ fn creation(opcode: u8) -> OpName
     ensures { λ r. ⌜ r ≡ padded (opName opcode) ⌝ }
 {
     match opcode {
-        // CREATE
-        0xf0 => OpName([67, 82, 69, 65, 84, 69, 0, 0, 0, 0, 0, 0, 0, 0], 6),
-        // CALL
-        0xf1 => OpName([67, 65, 76, 76, 0, 0, 0, 0, 0, 0, 0, 0, 0, 0], 4),
-        // CALLCODE
-        0xf2 => OpName([67, 65, 76, 76, 67, 79, 68, 69, 0, 0, 0, 0, 0, 0], 8),
-        // RETURN
-        0xf3 => OpName([82, 69, 84, 85, 82, 78, 0, 0, 0, 0, 0, 0, 0, 0], 6),
-        // DELEGATECALL
-        0xf4 => OpName([68, 69, 76, 69, 71, 65, 84, 69, 67, 65, 76, 76, 0, 0], 12),
-        // CREATE2
-        0xf5 => OpName([67, 82, 69, 65, 84, 69, 50, 0, 0, 0, 0, 0, 0, 0], 7),
-        _ => unknown_name(),
+        0xf0 => text::CREATE,
+        0xf1 => text::CALL,
+        0xf2 => text::CALLCODE,
+        0xf3 => text::RETURN,
+        0xf4 => text::DELEGATECALL,
+        0xf5 => text::CREATE2,
+        _ => text::UNKNOWN,
     }
 }
 
@@ -454,14 +303,10 @@ fn ending(opcode: u8) -> OpName
     ensures { λ r. ⌜ r ≡ padded (opName opcode) ⌝ }
 {
     match opcode {
-        // STATICCALL
-        0xfa => OpName([83, 84, 65, 84, 73, 67, 67, 65, 76, 76, 0, 0, 0, 0], 10),
-        // REVERT
-        0xfd => OpName([82, 69, 86, 69, 82, 84, 0, 0, 0, 0, 0, 0, 0, 0], 6),
-        // INVALID
-        0xfe => OpName([73, 78, 86, 65, 76, 73, 68, 0, 0, 0, 0, 0, 0, 0], 7),
-        // SELFDESTRUCT
-        0xff => OpName([83, 69, 76, 70, 68, 69, 83, 84, 82, 85, 67, 84, 0, 0], 12),
-        _ => unknown_name(),
+        0xfa => text::STATICCALL,
+        0xfd => text::REVERT,
+        0xfe => text::INVALID,
+        0xff => text::SELFDESTRUCT,
+        _ => text::UNKNOWN,
     }
 }

@@ -6,10 +6,9 @@ use mathlib.Core.Bool.{Bool, true, false, not, cond, _&&_, true≢false}
 use native.Mathlib.Numerals.{add-one}
 use lib.Dec.{leb, ltb, eqb}
 use lib.ListN.{length}
-use borrow.Author.Tests.{lt-ltb, le-ltb, le-leb, lt-leb, eq-eqb, ne-eqb, leb-true, leb-false, not-false}
-use Rattle.records.specs.Record.{readSection}
+use borrow.Author.Tests.{lt-ltb, le-ltb, le-leb, lt-leb, leb-true, leb-false, not-false}
 use Rattle.records.specs.Store.{Store, maxBytes, maxSections, sectionWords, badCounts}
-use Rattle.records.specs.Damage.{unreadable, isSpan, brokenSection, brokenLast, endBefore, spansEnd, breaksRule, badCount, brokenReply, wholeSoundness, lastBroken, badCountBuilding, lastSoundness}
+use Rattle.records.specs.Damage.{isSpan, brokenSection, brokenLast, endBefore, spansEnd, breaksRule, badCount, brokenReply, wholeSoundness, lastBroken, badCountBuilding, lastSoundness}
 use Rattle.slices.proofs.First.{NoneBefore, search-start, search-next, search-hit, search-done}
 use Rattle.records.specs.declared.record.StoredSection.{StoredSection}
 use Rattle.records.specs.declared.damage.Soundness
@@ -53,40 +52,6 @@ module _ (w : ℕ) (st : Store) where
       let b : leb (st .storedBytes) maxBytes ≡ true = le-leb _ _ h in
       let c : leb (st .sections) maxSections ≡ true = le-leb _ _ k in
       rw (a, b, c) (ltb-not-leb (length (st .words)) (w * st .sections))
-
--- a last section
-module _ (r : StoredSection) (stored : ℕ) where
-  pub last-unreadable : unreadable (readSection r) ≡ true → true ≡ brokenLast r stored
-  last-unreadable e = rw e
-
-  pub last-span : unreadable (readSection r) ≡ false → isSpan (r .kind) ≡ true → not (eqb (r .second) stored) ≡ brokenLast r stored
-  last-span e t = rw (e, t)
-
-  pub last-other : unreadable (readSection r) ≡ false → isSpan (r .kind) ≡ false → false ≡ brokenLast r stored
-  last-other e t = rw (e, t)
-
--- any section
-module _ (r : StoredSection) (previous : ℕ) (isLast : Bool) (stored : ℕ) where
-  pub any-unreadable : unreadable (readSection r) ≡ true → true ≡ brokenSection r previous isLast stored
-  any-unreadable e = rw e
-
-  pub any-other : unreadable (readSection r) ≡ false → isSpan (r .kind) ≡ false → false ≡ brokenSection r previous isLast stored
-  any-other e t = rw (e, t)
-
-  pub any-start : unreadable (readSection r) ≡ false → isSpan (r .kind) ≡ true → (r .first ≡ previous → ⊥) → true ≡ brokenSection r previous isLast stored
-  any-start e t n =
-      let u : eqb (r .first) previous ≡ false = ne-eqb _ _ n in
-      rw (e, t, u)
-
-  pub any-last : unreadable (readSection r) ≡ false → isSpan (r .kind) ≡ true → r .first ≡ previous → isLast ≡ true → not (eqb (r .second) stored) ≡ brokenSection r previous isLast stored
-  any-last e t n l =
-      let u : eqb (r .first) previous ≡ true = eq-eqb _ _ n in
-      rw (e, t, u, l)
-
-  pub any-inner : unreadable (readSection r) ≡ false → isSpan (r .kind) ≡ true → r .first ≡ previous → isLast ≡ false → false ≡ brokenSection r previous isLast stored
-  any-inner e t n l =
-      let u : eqb (r .first) previous ≡ true = eq-eqb _ _ n in
-      rw (e, t, u, l)
 
 -- the walk back over the sections to the last Ops or Data section
 module _ (w : ℕ) (st : Store) where

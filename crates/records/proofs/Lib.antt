@@ -1,3 +1,4 @@
 pub mod Reading
 pub mod Damages
+pub mod Helds
 pub mod Unreadable

@@ -1,4 +1,5 @@
 pub mod Record
 pub mod Store
 pub mod Damage
+pub mod Held
 pub mod Sections

@@ -2,6 +2,8 @@
 use crate::Assembler;
 use crate::kind;
 use crate::record::StoredSection;
+use units::AsmBytesIdx;
+use units::BytesSpan;
 use units::form;
 ghost use mathlib.Core.Path.{_≡_};
 ghost use mathlib.Core.Bool.{cond, _&&_};
@@ -10,13 +12,26 @@ ghost use lib.Dec.{ltb, eqb};
 ghost use lib.ListN.{length};
 ghost use Rattle.records.specs.Store.{storeOf, wordsPerSection, wordsAt, badCounts};
 ghost use Rattle.records.specs.Record.{readSection, maxMark};
-ghost use Rattle.records.specs.Damage.{unreadable, isSpan, spansEnd, brokenSection, brokenLast, brokenReply};
-ghost use Rattle.records.specs.Damage.{wholeSoundness, lastSoundness};
+ghost use Rattle.records.specs.Damage.{unreadable, isSpan, spansEnd, brokenReply, wholeSoundness, lastSoundness};
+ghost use Rattle.records.specs.Held.{heldRead, endsElsewhere, spanMisplaced, isMisplaced, endAfter};
 
 // Sound, or the section that number 6 reports.
 pub enum Soundness {
     Sound,
     Damaged(u32),
+}
+
+// What the tests need of a section that can be read: the span of Ops or Data, or nothing of a mark or a reference.
+enum Held {
+    Bytes(BytesSpan),
+    Nothing,
+}
+
+// What three words are read as here: `SectionRead` without what marks and references hold, so that it stays in registers
+// (docs/PERFORMANCE.md).
+enum HeldRead {
+    Read(Held),
+    Damaged,
 }
 
 // The whole test: bad counts first, then the first section that breaks a rule.
@@ -48,7 +63,11 @@ pub fn check_last(store: Assembler, bytes: &[u8], words: &[u32]) -> Soundness
         return Soundness::Sound;
     }
     let last = sections - 1;
-    if broken_last(section_words(words, last as usize), store.bytes) {
+    let read = read_held(section_words(words, last as usize));
+    let HeldRead::Read(held) = read else {
+        return Soundness::Damaged(last);
+    };
+    if ends_elsewhere(held, store.bytes) {
         Soundness::Damaged(last)
     } else {
         Soundness::Sound
@@ -152,49 +171,59 @@ fn is_unreadable(section: StoredSection) -> bool
         | ((kind == kind::DIRECT) & (form::MAX_SIZE < second) & (second < form::PUSHED))
 }
 
-// A section that can't be read, starts elsewhere than at the previous end, or, the last with bytes, ends elsewhere than at the stored
-// count.
-fn broken_section(section: StoredSection, previous_end: u32, is_last: bool, stored: u32) -> bool
-    ensures { λ r. ⌜ r ≡ brokenSection section «previous_end» «is_last» stored ⌝ }
+// The section that three words stand for, or damaged.
+fn read_held(section: StoredSection) -> HeldRead
+    ensures { λ r. ⌜ r ≡ heldRead (readSection section) ⌝ }
 {
     if is_unreadable(section) {
-        return true;
+        return HeldRead::Damaged;
     }
-    if !is_span(section.kind) {
-        return false;
-    }
-    if section.first != previous_end {
-        return true;
-    }
-    if is_last {
-        section.second != stored
+    if is_span(section.kind) {
+        HeldRead::Read(Held::Bytes(BytesSpan {
+            start: AsmBytesIdx(section.first),
+            end: AsmBytesIdx(section.second),
+        }))
     } else {
-        false
+        HeldRead::Read(Held::Nothing)
     }
 }
 
-// A last section that can't be read or, with bytes, ends elsewhere than at the stored count.
-fn broken_last(section: StoredSection, count: u32) -> bool
-    ensures { λ r. ⌜ r ≡ brokenLast section count ⌝ }
+// A section with bytes that ends elsewhere than at the stored count.
+fn ends_elsewhere(held: Held, stored: u32) -> bool
+    ensures { λ r. ⌜ r ≡ endsElsewhere held stored ⌝ }
 {
-    if is_unreadable(section) {
+    match held {
+        Held::Bytes(span) => span.end.0 != stored,
+        Held::Nothing => false,
+    }
+}
+
+// Bytes that start elsewhere than at the previous end, or, the last, end elsewhere than at the stored count.
+fn span_misplaced(span: BytesSpan, previous_end: u32, is_last: bool, stored: u32) -> bool
+    ensures { λ r. ⌜ r ≡ spanMisplaced span «previous_end» «is_last» stored ⌝ }
+{
+    if span.start.0 != previous_end {
         return true;
     }
-    if is_span(section.kind) {
-        section.second != count
-    } else {
-        false
+    if is_last { span.end.0 != stored } else { false }
+}
+
+fn is_misplaced(held: Held, previous_end: u32, is_last: bool, stored: u32) -> bool
+    ensures { λ r. ⌜ r ≡ isMisplaced held «previous_end» «is_last» stored ⌝ }
+{
+    match held {
+        Held::Bytes(span) => span_misplaced(span, previous_end, is_last, stored),
+        Held::Nothing => false,
     }
 }
 
 // The end of the last Ops or Data section, with one section more.
-fn next_end(section: StoredSection, end: u32) -> u32
-    ensures { λ r. ⌜ r ≡ cond (isSpan (section .kind)) (section .second) end ⌝ }
+fn end_after(held: Held, end: u32) -> u32
+    ensures { λ r. ⌜ r ≡ endAfter held end ⌝ }
 {
-    if is_span(section.kind) {
-        section.second
-    } else {
-        end
+    match held {
+        Held::Bytes(span) => span.end.0,
+        Held::Nothing => end,
     }
 }
 
@@ -207,12 +236,15 @@ fn check_sections(store: Assembler, bytes: &[u8], words: &[u32], spans: u32) -> 
     let mut i: u32 = 0;
     let mut end: u32 = 0;
     while i < store.sections {
-        let section = section_words(words, i as usize);
         let next = i + 1;
-        if broken_section(section, end, next == spans, store.bytes) {
+        let read = read_held(section_words(words, i as usize));
+        let HeldRead::Read(held) = read else {
+            return Soundness::Damaged(i);
+        };
+        if is_misplaced(held, end, next == spans, store.bytes) {
             return Soundness::Damaged(i);
         }
-        end = next_end(section, end);
+        end = end_after(held, end);
         i = next;
     }
     Soundness::Sound

@@ -19,10 +19,10 @@ use Rattle.rust_model.proofs.Growth.{slice-end, every-more, every-befor
 
 -- ---- what the building calls keep
 
--- a Data section ends at the end of the bytes
+-- a section of bytes ends at the end of the bytes
 abbrev pub AtEnd : List ℕ → AsmSection → Type 0
 AtEnd bs (read.Mark id) = Unit {0}
-AtEnd bs (read.Ops span) = Unit {0}
+AtEnd bs (read.Ops span) = span .end ≡ length bs
 AtEnd bs (read.Data span) = span .end ≡ length bs
 AtEnd bs (read.MarkRef r) = Unit {0}
 
@@ -32,7 +32,7 @@ LastAtEnd bs [] = Unit {0}
 LastAtEnd bs (s ∷ []) = AtEnd bs s
 LastAtEnd bs (s ∷ t ∷ ts) = LastAtEnd bs (t ∷ ts)
 
--- spans are within the bytes, and a last Data section ends at their end
+-- spans are within the bytes, and a last section of bytes ends at their end
 pub record Kept (a : Assembler) : Type 0 where
   pub spans : Spans a
   pub last : LastAtEnd (a .bytes) (iterSections a)
@@ -49,7 +49,7 @@ end-snoc bs [] s h = h
 end-snoc bs (t ∷ []) s h = h
 end-snoc bs (t ∷ u ∷ us) s h = end-snoc bs (u ∷ us) s h
 
-pub end-last : (bs : List ℕ) (ss : List AsmSection) (s : AsmSection) → LastAtEnd bs (ss ++ (s ∷ [])) → AtEnd bs s
+end-last : (bs : List ℕ) (ss : List AsmSection) (s : AsmSection) → LastAtEnd bs (ss ++ (s ∷ [])) → AtEnd bs s
 end-last bs [] s h = h
 end-last bs (t ∷ []) s h = h
 end-last bs (t ∷ u ∷ us) s h = end-last bs (u ∷ us) s h
@@ -111,8 +111,12 @@ as-in asOps bs span h = h
 as-in asData bs span h = h
 
 end-as : (k : Kind) (bs : List ℕ) (span : Span) → span .end ≡ length bs → AtEnd bs (fromStored (storedAs k span))
-end-as asOps bs span h = tt
+end-as asOps bs span h = h
 end-as asData bs span h = h
+
+as-end : (k : Kind) (bs : List ℕ) (span : Span) → AtEnd bs (fromStored (storedAs k span)) → span .end ≡ length bs
+as-end asOps bs span h = h
+as-end asData bs span h = h
 
 bytes-as : (k : Kind) (bs : List ℕ) → bytesOf (sectionAs k bs) ≡ bs
 bytes-as asOps bs = refl
@@ -121,6 +125,13 @@ bytes-as asData bs = refl
 join-as : (k : Kind) (x y : List ℕ) → afterLast (sectionAs k x) (sectionAs k y) ≡ sectionAs k (x ++ y) ∷ []
 join-as asOps x y = refl
 join-as asData x y = refl
+
+-- a last section of bytes ends at the end of the bytes
+pub last-end : (k : Kind) (a : Assembler) (before : List StoredAsmSection) (span : Span) → a .sections ≡ before ++ (storedAs k span ∷ []) → Kept a
+    → span .end ≡ length (a .bytes)
+last-end k a before span e h =
+    let parts : iterSections a ≡ map fromStored before ++ (fromStored (storedAs k span) ∷ []) = ap (map fromStored) e ∙ map-append fromStored before (storedAs k span ∷ []) in
+    as-end k (a .bytes) span (end-last (a .bytes) (map fromStored before) (fromStored (storedAs k span)) (subst (LastAtEnd (a .bytes)) parts (h .last)))
 
 -- bytes at the end, and after these sections one that has them, from a start among the bytes before
 abbrev grown : Kind → List ℕ → List ℕ → List StoredAsmSection → ℕ → Assembler

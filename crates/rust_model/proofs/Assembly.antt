@@ -1,10 +1,11 @@
 -- The Rust's `assemble` against ours: what each comes to, over an undamaged store that decodes to the Rust's list. Assumes nothing.
-use Prim.Native.Nat.{ℕ, zero, suc, _+_, _*_, _≤_, _<_}
+use Prim.Native.Nat.{ℕ, zero, suc, _+_, _≤_, _<_}
 use native.Mathlib.Omega.{arith}
 use mathlib.Core.Path.{_≡_, refl, sym, ap, _∙_, subst}
 use mathlib.Core.Bool.{Bool, true, false, not, _||_}
 use mathlib.Core.Logic.{_⊎_, inl, inr}
 use mathlib.Core.List.{List, [], _∷_, _++_, map}
+use mathlib.Core.Option.{Option}
 use lib.Dec.{leb}
 use lib.ListN.{length}
 use borrow.Author.Tests.{leb-false, lt-leb, not-false}
@@ -18,8 +19,8 @@ use Rattle.records.specs.Sections.{Section, mark, ops, bytes, reference, decode
 use Rattle.slices.specs.Over.{over}
 use Rattle.undamaged.specs.View.{Undamaged}
 use Rattle.undamaged.proofs.Soundness.{undamaged-iff}
-use Rattle.layout.specs.Passes.{entry, valueBy, Settling, settled, narrowAt, unsettled, settle}
-use Rattle.layout.specs.Conditions.{sectionAt, IsFirst, Never, placesSome, someMark, namesSome, refers, placed, shortAt, unplacedAt, apartAt, backwardBy, backwardAt}
+use Rattle.layout.specs.Passes.{entry, Settling, settled, narrowAt, unsettled, settle}
+use Rattle.layout.specs.Conditions.{sectionAt, IsFirst, Never, placesSome, someMark, namesSome, refers, placed, shortAt, unplacedAt, backwardBy, backwardAt}
 use Rattle.layout.specs.Answer.{LayoutRefusal, laidOut, noLayout, layoutNumbers, Answer, answer, Says}
 use Rattle.layout.specs.Answer as layout
 use Rattle.layout.proofs.Answers.{settle-law, answer-law}
@@ -34,19 +35,20 @@ use Rattle.layout.proofs.Apart.{placed-law}
 use Rattle.assembler.specs.Emission.{referenceBytes, sectionBytes, inARow, codeOf}
 use Rattle.assembler.proofs.Places.{settled-still}
 use Rattle.settling.specs.Settle.{Settlement, settlement, settling}
-use Rattle.assembler.specs.Assemble.{Outcome, written, refusal, assembly}
+use Rattle.assembler.specs.Assemble.{Outcome, written, assembly}
 use Rattle.settling.proofs.Decoded.{stored-small}
 use Rattle.assembler.proofs.Laid.{sound-settles, laid}
 use Rattle.assembler.proofs.Outcomes.{LaidBy, outcome-refused, outcome-written, fits-law}
-use Rattle.rust_model.specs.Run.{Run, done, panic, andThen, Build, index}
+use Rattle.rust_model.specs.Run.{Run, done, panic, andThen, Build}
 use Rattle.rust_model.specs.Building.{Assembler}
 use Rattle.rust_model.specs.Sections.{AsmSection, Mark, Ops, Data, MarkRef, iterSections}
-use Rattle.rust_model.specs.Assemble.{Converged, ok, refHasTooSmallSetSize, converge, Assembled, assembled, tooSmallSetSize, emitFrom, emission, assemble}
-use Rattle.rust_model.specs.Demand2.{seen, sectionsOf, Assembles, SameCode, SameSection, SameAssembly}
+use Rattle.rust_model.specs.Assemble.{Reserve, Reserves, Converged, ok, refHasTooSmallSetSize, markCount, Assembled, assembled, emitFrom, emission, assemble}
+use Rattle.rust_model.specs.Demand2.{seen, sectionsOf, Assembles, SameAssembly}
 use Rattle.rust_model.proofs.Spans.{Spans}
 use Rattle.rust_model.proofs.Steps.{index-done, MarksIn}
 use Rattle.rust_model.proofs.Offsets.{EveryMap, need, rustSettling, converge-same}
-use Rattle.rust_model.proofs.Lent.{AlikeAt, Alike, Uses, value-alike, SameSettling, uses-placed, settle-alike}
+use Rattle.rust_model.proofs.Lent.{Alike, Uses, value-alike, SameSettling, uses-placed, settle-alike}
+use Rattle.rust_model.proofs.TableGrowth.{lastLength, last-placed, converge-grown}
 use Rattle.rust_model.proofs.Emission.{Ready, emit-same, emit-panic}
 
 -- ---- marks within a table, from marks that are placed
@@ -132,11 +134,16 @@ at-all Q [] h i l = absurd (omega arith)
 at-all Q (s ∷ ss) h zero l = h .0
 at-all Q (s ∷ ss) h (suc i) l = at-all Q ss (h .1) i (omega arith)
 
+-- no sum of sizes overflows
+pub sums-small : (a : Assembler) (st : Store) → Undamaged wordsPerSection st → decode wordsPerSection st ≡ sectionsOf a → need (sectionsOf a) < 4294967296
+sums-small a st undamaged decoded =
+    subst (λ (l : List Section). need l < 4294967296) decoded (stored-small wordsPerSection st (undamaged-iff wordsPerSection st .0 undamaged))
+
 -- ---- assembly
 
 module _
     (build : Build) (a : Assembler) (st : Store) (spans : Spans a) (undamaged : Undamaged wordsPerSection st) (decoded : decode wordsPerSection st ≡ sectionsOf a)
-    (lent own : ℕ) (given : Assembles a lent own) (before result : List ℕ) (position : ℕ)
+    (lent : ℕ) (given : Assembles a lent) (reserve : Reserve) (promise : Reserves reserve) (hint : Option ℕ) (before result : List ℕ) (position : ℕ)
   where
     -- the sections
     abbrev ss : List Section
@@ -146,6 +153,16 @@ module _
     abbrev rs : List AsmSection
     rs = iterSections a
 
+    -- the length of the Rust's table in the end, which is longer than every placed mark
+    abbrev own : ℕ
+    own = lastLength reserve rs (markCount hint)
+
+    grown : (m : ℕ) → placed ss m ≡ true → m < own
+    grown = last-placed reserve promise (a .bytes) rs (markCount hint)
+
+    abbrev theirs : Run Assembled
+    theirs = assemble build reserve hint a before
+
     abbrev ours : Outcome
     ours = assembly wordsPerSection st lent result position
 
@@ -153,11 +170,11 @@ module _
     uses = uses-placed ss (given .marksPlaced)
 
     in-own : EveryMap own rs
-    in-own = every-map (placed ss) own (given .grown) (a .bytes) rs uses
+    in-own = every-map (placed ss) own grown (a .bytes) rs uses
 
     -- no sum overflows
     small : need ss < 4294967296
-    small = subst (λ (l : List Section). need l < 4294967296) decoded (stored-small wordsPerSection st (undamaged-iff wordsPerSection st .0 undamaged))
+    small = sums-small a st undamaged decoded
 
     -- 7, 8 and 9 don't hold
     sound : layout.Sound lent ss
@@ -178,16 +195,16 @@ module _
         (outcome-refused wordsPerSection st lent result position _ _ _ (ap (λ (x : Settlement). x .reply) (answered (noLayout r) s)))
 
     -- the Rust after its offsets have converged
-    converged : (c : Run Converged) → rustSettling (settle own ss) ≡ c → assemble build own a before ≡ andThen c (emission a before)
+    converged : (c : Run Converged) → rustSettling (settle own ss) ≡ c → theirs ≡ andThen c (emission a before)
     unfolding assemble
-    converged c e = ap (λ (x : Run Converged). andThen x (emission a before)) (converge-same build (a .bytes) own rs spans in-own small ∙ e)
+    converged c e = ap (λ (x : Run Converged). andThen x (emission a before)) (converge-grown build reserve promise rs (markCount hint) ∙ converge-same build (a .bytes) own rs spans in-own small ∙ e)
 
     -- ---- settled by both
 
     module _ (T t : List ℕ) (e e′ k k′ : ℕ) (byOwn : settle own ss ≡ settled T e k) (byLent : settle lent ss ≡ settled t e′ k′) (alike : Alike (placed ss) T t) where
       -- the Rust's table, and that each reference has room by it
       own-still : (length T ≡ own) × Still (Sizes widthRule) ss 0 (entry T) e
-      own-still = settled-still own ss T e k (none-short own ss (given .marksPlaced) (given .grown)) byOwn
+      own-still = settled-still own ss T e k (none-short own ss (given .marksPlaced) grown) byOwn
 
       in-map : EveryMap (length T) rs
       in-map = subst (λ (n : ℕ). EveryMap n rs) (sym (own-still .0)) in-own
@@ -202,12 +219,12 @@ module _
       code = codeOf (entry t) ss
 
       -- no delta is backward: the Rust appends the code, and ours is written where it fits
-      forward : Never ss (backwardAt t ss) → SameAssembly a before result position ours (assemble build own a before)
+      forward : Never ss (backwardAt t ss) → SameAssembly a before result position ours theirs
       forward never =
           let rust : emitFrom (a .bytes) T rs before ≡ done (before ++ codeOf (entry T) ss) =
           emit-same (a .bytes) T rs before spans in-map (still-ready T ss 0 e (own-still .1))
           (all-at (λ s. refers (backwardBy T) s ≡ false) ss (λ i l. backward-at i l ∙ never i l)) in
-          let is : assemble build own a before ≡ done (assembled T (before ++ codeOf (entry T) ss)) =
+          let is : theirs ≡ done (assembled T (before ++ codeOf (entry T) ss)) =
           converged (done (ok T)) (ap rustSettling byOwn) ∙ ap (λ (x : Run (List ℕ)). andThen x (λ result′. done (assembled T result′))) rust in
           let out : LaidBy wordsPerSection lent st t e′ k′ = answered (laidOut t e′ k′) (sound, settle-law lent ss (settled t e′ k′) .0 byLent, never) in
           let long : length code ≡ e′ = subst (λ (l : List Section). length (codeOf (entry t) l) ≡ e′) decoded (laid wordsPerSection lent st t e′ k′ out .codeLong) in
@@ -224,27 +241,27 @@ module _
           })
 
       -- some delta is backward: the Rust panics, and ours is 12
-      backward : (i : ℕ) → IsFirst ss (backwardAt t ss) i → SameAssembly a before result position ours (assemble build own a before)
+      backward : (i : ℕ) → IsFirst ss (backwardAt t ss) i → SameAssembly a before result position ours theirs
       backward i first =
-          let is : assemble build own a before ≡ panic =
+          let is : theirs ≡ panic =
           converged (done (ok T)) (ap rustSettling byOwn)
           ∙ ap (λ (x : Run (List ℕ)). andThen x (λ result′. done (assembled T result′))) (emit-panic (a .bytes) T rs before i in-map (first .0) (backward-at i (first .0) ∙ first .1)) in
           let says : Says lent ss (noLayout (layout.backward i k′)) = (t, e′, sound, settle-law lent ss (settled t e′ k′) .0 byLent, first) in
           subst (SameAssembly a before result position ours) (sym is) (i, k′, inr (refuses (layout.backward i k′) says))
 
-      settled-same : SameAssembly a before result position ours (assemble build own a before)
+      settled-same : SameAssembly a before result position ours theirs
       settled-same = go (first-or-never ss (backwardAt t ss))
         where
-          go : ((i : ℕ) × IsFirst ss (backwardAt t ss) i) ⊎ Never ss (backwardAt t ss) → SameAssembly a before result position ours (assemble build own a before)
+          go : ((i : ℕ) × IsFirst ss (backwardAt t ss) i) ⊎ Never ss (backwardAt t ss) → SameAssembly a before result position ours theirs
           go (inl b) = backward (b .0) (b .1)
           go (inr n) = forward n
 
     -- ---- what both come to
 
-    pub assembly-same : SameAssembly a before result position ours (assemble build own a before)
-    assembly-same = go (settle own ss) refl (settle lent ss) refl (settle-alike own lent ss (given .marksPlaced) (given .grown) (below-length lent ss (given .inTable)))
+    pub assembly-same : SameAssembly a before result position ours theirs
+    assembly-same = go (settle own ss) refl (settle lent ss) refl (settle-alike own lent ss (given .marksPlaced) grown (below-length lent ss (given .inTable)))
       where
-        go : (x : Settling) → settle own ss ≡ x → (y : Settling) → settle lent ss ≡ y → SameSettling (placed ss) x y → SameAssembly a before result position ours (assemble build own a before)
+        go : (x : Settling) → settle own ss ≡ x → (y : Settling) → settle lent ss ≡ y → SameSettling (placed ss) x y → SameAssembly a before result position ours theirs
         go (settled T e k) p (settled t e′ k′) q s = settled-same T t e e′ k k′ p q (s .2)
         go (settled T e k) p (narrowAt j k′) q s = absurd s
         go (settled T e k) p unsettled q s = absurd s

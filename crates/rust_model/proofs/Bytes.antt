@@ -1,19 +1,17 @@
 -- Op bytes and data pushed to the Rust's store: they join a last section of their kind, and else are a new one. Assumes nothing.
 use Prim.Native.Nat.{ℕ}
-use mathlib.Core.Path.{_≡_, refl, sym, ap, _∙_, subst}
-use mathlib.Core.Bool.{cond}
-use mathlib.Core.List.{List, [], _∷_, _++_, append-assoc, map, map-append}
+use mathlib.Core.Path.{_≡_, refl, ap, _∙_, subst}
+use mathlib.Core.Bool.{Bool, true, false, cond}
+use mathlib.Core.List.{List, [], _∷_, _++_, append-assoc}
 use lib.ListN.{length}
 use lib.Dec.{eqb}
-use borrow.Author.Tests.{eqb-true}
 use Rattle.records.specs.Sections.{Section, mark, ops, bytes, reference}
 use Rattle.calls.specs.Lists.{addedAfter, addedTo}
-use Rattle.rust_model.specs.Run.{Run, done, panic, andThen, Build, debug, release, lenIdx, pushed}
+use Rattle.rust_model.specs.Run.{Run, done, panic, andThen, Build, lenIdx, pushed}
 use Rattle.rust_model.specs.Building.{Span, StoredAsmSection, Ops, Data, Assembler, Last, extendOps, newOps, opByteAfter, opByte, opBytes, longerData, extendData, newData, dataAfter, pushedData}
-use Rattle.rust_model.specs.Sections.{fromStored}
 use Rattle.rust_model.specs.Demand2.{sectionsOf}
 use Rattle.rust_model.proofs.Runs.{done-inj, andThen-done, cond-done, lenIdx-done, pushed-done}
-use Rattle.rust_model.proofs.Adds.{LastAtEnd, end-last, Kept, Adds, asOps, asData, adds-new, adds-joined}
+use Rattle.rust_model.proofs.Adds.{Kept, Adds, asOps, asData, last-end, adds-new, adds-joined}
 use Rattle.rust_model.proofs.Last.{LastIs, is-ops, is-data, is-other, last-is, apart}
 
 -- ---- one op byte
@@ -35,7 +33,7 @@ extend-ops a a′ before span b e k r =
     let push : Run Assembler = andThen (pushed (a .bytes) b) (λ bs′. andThen (lenIdx bs′) (λ end. done (new bs′ end))) in
     let r₁ = andThen-done (lenIdx (a .bytes)) (λ len. cond (eqb (span .end) len) push panic) a′ r in
     let r₂ = cond-done (eqb (span .end) (r₁ .0)) push a′ (r₁ .2) in
-    let at : span .end ≡ length (a .bytes) = eqb-true (span .end) (r₁ .0) (r₂ .0) ∙ sym (lenIdx-done (a .bytes) (r₁ .0) (r₁ .1)) in
+    let at : span .end ≡ length (a .bytes) = last-end asOps a before span e k in
     subst (Adds (ops (b ∷ [])) a) (grown-done (a .bytes) b new a′ (r₂ .1)) (adds-joined asOps (a .bytes) (b ∷ []) (a .sections) before span e at k)
 
 -- or is a section of its own
@@ -111,16 +109,19 @@ unfolding longerData
 longer-data a a′ before span more e k r =
     let new : ℕ → Assembler = λ end. record { bytes = a .bytes ++ more; sections = before ++ (Data (record { start = span .start; end = end }) ∷ []) } in
     let r₁ = andThen-done (lenIdx (a .bytes ++ more)) (λ end. done (new end)) a′ r in
-    let at : span .end ≡ length (a .bytes) = end-last (a .bytes) (map fromStored before) (fromStored (Data span)) (subst (LastAtEnd (a .bytes)) (ap (map fromStored) e ∙ map-append fromStored before (Data span ∷ [])) (k .last)) in
+    let at : span .end ≡ length (a .bytes) = last-end asData a before span e k in
     subst (Adds (bytes more) a) (ap new (lenIdx-done (a .bytes ++ more) (r₁ .0) (r₁ .1)) ∙ done-inj (r₁ .2)) (adds-joined asData (a .bytes) more (a .sections) before span e at k)
 
--- in either build
+-- with debug assertions or without
 extend-data : (build : Build) (a a′ : Assembler) (before : List StoredAsmSection) (span : Span) (more : List ℕ) → a .sections ≡ before ++ (Data span ∷ []) → Kept a
     → extendData build before span (a .bytes) more ≡ done a′ → Adds (bytes more) a a′
 unfolding extendData
-extend-data debug a a′ before span more e k r =
-    longer-data a a′ before span more e k (cond-done (eqb (span .end) (length (a .bytes))) (longerData before span (a .bytes) more) a′ r .1)
-extend-data release a a′ before span more e k r = longer-data a a′ before span more e k r
+extend-data build a a′ before span more e k r = longer-data a a′ before span more e k (asserted (build .debugAssertions) r)
+  where
+    asserted : (b : Bool) → cond b (cond (eqb (span .end) (length (a .bytes))) (longerData before span (a .bytes) more) panic) (longerData before span (a .bytes) more) ≡ done a′
+        → longerData before span (a .bytes) more ≡ done a′
+    asserted true q = cond-done (eqb (span .end) (length (a .bytes))) (longerData before span (a .bytes) more) a′ q .1
+    asserted false q = q
 
 -- or are a section of their own
 new-data : (a a′ : Assembler) (more : List ℕ) → addedTo (sectionsOf a) (bytes more) ≡ sectionsOf a ++ (bytes more ∷ []) → Kept a → newData a more ≡ done a′ → Adds (bytes more) a a′

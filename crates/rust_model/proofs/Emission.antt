@@ -1,10 +1,10 @@
 -- The Rust's emission against 01's, by one table. Assumes nothing.
 use Prim.Native.Nat.{ℕ, zero, suc, _+_, _-_, _≤_, _<_}
 use native.Mathlib.Omega.{arith}
-use mathlib.Core.Path.{_≡_, refl, sym, ap, _∙_, subst}
+use mathlib.Core.Path.{_≡_, refl, sym, ap, _∙_}
 use mathlib.Core.Bool.{Bool, true, false, cond, _&&_, false≢true}
 use mathlib.Core.List.{List, [], _∷_, _++_, map, append-assoc, append-nil, reverse}
-use lib.Dec.{leb, ltb, eqb}
+use lib.Dec.{ltb, eqb}
 use lib.ListN.{length, take}
 use borrow.Author.Tests.{ltb-true, ltb-false, lt-leb}
 use Rattle.units.specs.Numbers.{heldBytes, bigEndian}
@@ -15,18 +15,17 @@ use Rattle.units.specs.declared.SetSize.{SetSize}
 use Rattle.units.specs.declared.SetSize.the-variants.{Unsized, Sized}
 use Rattle.units.specs.declared.MarkReference.{MarkReference}
 use Rattle.units.specs.declared.MarkReference.the-variants.{Direct, Delta}
-use Rattle.units.specs.declared.AsmReference.{AsmReference}
 use Rattle.records.specs.Sections.{Section, mark, ops, bytes, reference}
-use Rattle.slices.proofs.Tests.{cond-true, cond-false}
+use Rattle.slices.proofs.Tests.{cond-false}
 use Rattle.layout.specs.Passes.{entry, valueBy}
-use Rattle.layout.specs.Conditions.{sectionAt, refers, backwardBy, backwardAt}
+use Rattle.layout.specs.Conditions.{sectionAt, refers, backwardBy}
 use Rattle.layout.proofs.Walks.{All}
-use Rattle.assembler.specs.Emission.{opcode, referenceBytes, sectionBytes, parts, inARow, codeOf}
+use Rattle.assembler.specs.Emission.{opcode, referenceBytes, sectionBytes, inARow, codeOf}
 use Rattle.units.specs.Reference.{byteCount, isPushZero}
 use Rattle.rust_model.specs.Run.{Run, done, panic, andThen, checkedSub}
 use Rattle.rust_model.specs.Building.{leBytes}
 use Rattle.rust_model.specs.Sections.{AsmSection, Mark, Ops, Data, MarkRef, asU32, bytesToHold}
-use Rattle.rust_model.specs.Assemble.{emitValue, unwrapOr, isPush0, isInvalid, emitOp, emitBytes, emitRef, emitSection, emitFrom}
+use Rattle.rust_model.specs.Assemble.{emitValue, emitBytes, emitRef, emitSection, emitFrom}
 use Rattle.rust_model.specs.Demand2.{seen}
 use Rattle.rust_model.proofs.Spans.{SectionIn, EveryIn}
 use Rattle.rust_model.proofs.Minimal.{low-bytes}

@@ -1,11 +1,11 @@
 -- Lines 7, 8 and 12 of 01's layouts tried by hand, carried through demand 2: the Rust's answer is computed from its definition, and the
 -- theorem says that ours is the same. Assumes nothing.
-use Prim.Native.Nat.{ℕ, _+_, _*_, _≤_, _<_}
-use Prim.Native.String.{String}
+use Prim.Native.Nat.{ℕ, _+_, _*_, _≤_}
 use native.Mathlib.Omega.{arith}
 use mathlib.Core.Path.{_≡_, refl, sym, ap, _∙_, subst}
 use mathlib.Core.Bool.{Bool, true, false, not, _&&_, and-eq-true-iff as and-true}
-use mathlib.Core.List.{List, [], _∷_, _++_, map, reverse}
+use mathlib.Core.List.{List, [], _∷_, _++_}
+use mathlib.Core.Option.{none}
 use lib.Dec.{leb}
 use lib.ListN.{length, drop, replicate}
 use borrow.Author.Tests.{leb-true, not-true}
@@ -14,7 +14,6 @@ use Rattle.units.specs.declared.SetSize.{SetSize}
 use Rattle.units.specs.declared.SetSize.the-variants.{Unsized, Sized}
 use Rattle.units.specs.declared.MarkReference.the-variants.{Delta}
 use Rattle.records.specs.Store.{maxBytes, maxSections, wordsPerSection}
-use Rattle.records.specs.Sections.{Section}
 use Rattle.slices.specs.First.{leastFrom}
 use Rattle.calls.specs.Calls.{Call, push, clear, hasLargeMark, pushReference}
 use Rattle.slices.specs.Over.{over}
@@ -23,20 +22,20 @@ use Rattle.units.specs.Reply.{accepted, refused}
 use Rattle.layout.specs.Passes.{entry}
 use Rattle.layout.specs.Conditions.{placed, someBytes, shortAt, firstShort, unplacedAt, firstUnplaced, apartAt, firstApart}
 use Rattle.layout.proofs.Least.{never-law}
-use Rattle.opcodes.specs.Text.{asBytes}
-use Rattle.opcodes.specs.Names.{opName, lookup, opNames}
 use Rattle.assembler.specs.Assemble.{Outcome, written, assembly}
 use Rattle.listing.specs.Answer.{listingReply, listingBuffer}
 use Rattle.hand.proofs.Lines.{placing, op, «data», ref, far}
-use Rattle.rust_model.specs.Run.{Run, done, panic, Build, release, addU32, subU32, checkedSub, index, indexMut, range, lenIdx, pushed}
-use Rattle.rust_model.specs.Building.{StoredAsmSection, Mark, Ops, Data, DirectMarkRef, Size2RawDeltaRef, Assembler, empty, leBytes, lastOf, lastMut, extendOps, newOps, opByte, extendData, newData, pushedData, call, calls}
-use Rattle.rust_model.specs.Sections.{bytesToHold, saturatingSub}
-use Rattle.rust_model.specs.Assemble.{startFrom, walkFrom, iterate, converge, emitBytes, emitRef, emitFrom, assembled, tooSmallSetSize, assemble}
+use Rattle.rust_model.specs.Run.{Run, done, panic, Build, index, lenIdx, pushed}
+use Rattle.rust_model.specs.Building.{Assembler, empty, lastOf, lastMut, newOps, opByte, newData, pushedData, call, calls}
+use Rattle.rust_model.specs.Assemble.{assembled, assemble}
 use Rattle.rust_model.specs.Demand2.{sectionsOf, Fits, marksWithin, AlwaysFits, Builds, built, Assembles, SameAssembly}
-use Rattle.rust_model.specs.Display.{pushSize, hexDigit, hexBytes, digitsBefore, displayed, pushLine, fmtOpsFrom, fmtOps, fmtMarkRef, markLine, dataLine, textFrom, writeAsm}
+use Rattle.rust_model.proofs.AnswersComputed.{doubling, doubling-reserves, farStore, rust-7, rust-8, showStore, showCode, rust-12, showText, rust-text-12}
 use Rattle.rust_model.proofs.Demand2.{demand-2}
 use Rattle.rust_model.proofs.Runs.{done-inj}
-use Rattle.rust_model.proofs.Assembly.{below-length}
+
+-- a profile of the four: the answers are the same by all
+abbrev release : Build
+release = record { overflowChecks = false; debugAssertions = false }
 
 -- ---- premises by computing
 
@@ -87,26 +86,18 @@ fits-law build bs words (c ∷ cs) a e =
           (now-law bs words a′ (both .0), fits-law build bs words cs a′ (both .1)),
     )
 
--- the list of sections has none of the conditions for 7, 8 and 9, by either table
-assembles : (a : Assembler) (lent own : ℕ) → firstUnplaced (sectionsOf a) ≡ length (sectionsOf a) → firstApart (sectionsOf a) ≡ length (sectionsOf a)
-    → firstShort lent (sectionsOf a) ≡ length (sectionsOf a) → firstShort own (sectionsOf a) ≡ length (sectionsOf a) → Assembles a lent own
+-- the list of sections has none of the conditions for 7, 8 and 9
+assembles : (a : Assembler) (lent : ℕ) → firstUnplaced (sectionsOf a) ≡ length (sectionsOf a) → firstApart (sectionsOf a) ≡ length (sectionsOf a)
+    → firstShort lent (sectionsOf a) ≡ length (sectionsOf a) → Assembles a lent
 unfolding firstUnplaced firstApart firstShort
-assembles a lent own u p s o =
+assembles a lent u p s =
     record {
       marksPlaced = never-law (sectionsOf a) (unplacedAt (sectionsOf a)) .0 u;
       together = never-law (sectionsOf a) (apartAt (sectionsOf a)) .0 p;
       inTable = never-law (sectionsOf a) (shortAt lent (sectionsOf a)) .0 s;
-      grown = below-length own (sectionsOf a) (never-law (sectionsOf a) (shortAt own (sectionsOf a)) .0 o);
     }
 
 -- ---- lines 7 and 8: a pushed reference, 254 bytes of data, the mark
-
-abbrev direct : SetSize → StoredAsmSection
-direct size = DirectMarkRef 0 size true
-
--- what the calls come to
-abbrev farStore : SetSize → Assembler
-farStore size = record { bytes = replicate 254 0; sections = direct size ∷ Data (record { start = 0; end = 254 }) ∷ Mark 0 ∷ [] }
 
 -- lent slices that are just long enough
 abbrev farBytes : List ℕ
@@ -119,27 +110,17 @@ far-builds : (build : Build) (size : SetSize) → Builds build farBytes farWords
 unfolding calls pushedData lastMut lastOf newData lenIdx fitsFrom fitsAfter fitsNow isWithin
 far-builds build size = record { noPanic = refl; fits = fits-law build farBytes farWords (far size 254) empty refl }
 
--- by a lent table of one entry, and by a table of the Rust's first length, 128
-far-assembles : (size : SetSize) → Assembles (farStore size) 1 128
+-- by a lent table of one entry
+far-assembles : (size : SetSize) → Assembles (farStore size) 1
 unfolding firstShort shortAt firstUnplaced unplacedAt firstApart apartAt leastFrom placed someBytes
-far-assembles size = assembles (farStore size) 1 128 refl refl refl refl
-
--- the Rust's own answer to line 7: 61 01 01 and the data, the mark at 257
-rust-7 : (build : Build) → assemble build 128 (farStore Unsized) [] ≡ done (assembled (257 ∷ replicate 127 0) (0x61 ∷ 0x01 ∷ 0x01 ∷ replicate 254 0))
-unfolding assemble converge startFrom walkFrom iterate emitFrom emitRef emitBytes index indexMut addU32 subU32 range bytesToHold leBytes
-rust-7 build = refl
-
--- and to line 8: section 0
-rust-8 : (build : Build) → assemble build 128 (farStore (Sized S1)) [] ≡ done (tooSmallSetSize 0)
-unfolding assemble converge startFrom walkFrom iterate index indexMut addU32 subU32 bytesToHold
-rust-8 build = refl
+far-assembles size = assembles (farStore size) 1 refl refl refl
 
 -- what ours comes to on the same calls, a result lent from position 0
 abbrev farOurs : SetSize → List ℕ → Outcome
 farOurs size result = assembly wordsPerSection (built farBytes farWords (far size 254)) 1 result 0
 
-far-same : (build : Build) (size : SetSize) (result : List ℕ) → SameAssembly (farStore size) [] result 0 (farOurs size result) (assemble build 128 (farStore size) [])
-far-same build size result = demand-2 build farBytes farWords (far size 254) (farStore size) (far-builds build size) .assembly 1 128 (far-assembles size) [] result 0
+far-same : (build : Build) (size : SetSize) (result : List ℕ) → SameAssembly (farStore size) [] result 0 (farOurs size result) (assemble build doubling none (farStore size) [])
+far-same build size result = demand-2 build farBytes farWords (far size 254) (farStore size) (far-builds build size) .assembly 1 (far-assembles size) doubling doubling-reserves none [] result 0
 
 -- the code that was appended to nothing, as ours wrote it
 carried : (a : Assembler) (table code result : List ℕ) (ours : Outcome) → SameAssembly a [] result 0 ours (done (assembled table code)) → length code ≤ length result
@@ -182,23 +163,6 @@ showCalls =
     ∷ push (pushReference (record { «mark_ref» = Delta (record { start = record { 0 = 0 }; end = record { 0 = 1 } }); «set_size» = Sized S2; pushed = false }))
     ∷ []
 
--- what they come to in the Rust
-abbrev showStore : Assembler
-showStore =
-    record {
-      bytes = 0x5b ∷ 0x56 ∷ 0x5b ∷ 0xaa ∷ 0xbb ∷ [];
-      sections =
-          Mark 0
-          ∷ Ops (record { start = 0; end = 1 })
-          ∷ DirectMarkRef 1 Unsized true
-          ∷ Ops (record { start = 1; end = 2 })
-          ∷ Mark 1
-          ∷ Ops (record { start = 2; end = 3 })
-          ∷ Data (record { start = 3; end = 5 })
-          ∷ Size2RawDeltaRef (record { start = record { 0 = 0 }; end = record { 0 = 1 } })
-          ∷ [];
-    }
-
 abbrev showBytes : List ℕ
 showBytes = replicate 5 0
 
@@ -209,36 +173,12 @@ show-builds : (build : Build) → Builds build showBytes showWords showCalls sho
 unfolding calls opByte pushedData lastMut lastOf newOps newData lenIdx pushed fitsFrom fitsAfter fitsNow isWithin
 show-builds build = record { noPanic = refl; fits = fits-law build showBytes showWords showCalls empty refl }
 
-show-assembles : Assembles showStore 2 128
+show-assembles : Assembles showStore 2
 unfolding firstShort shortAt firstUnplaced unplacedAt firstApart apartAt leastFrom placed someBytes
-show-assembles = assembles showStore 2 128 refl refl refl refl
-
--- 'code 5b 60 04 56 5b aa bb 00 04'
-abbrev showCode : List ℕ
-showCode = 0x5b ∷ 0x60 ∷ 0x04 ∷ 0x56 ∷ 0x5b ∷ 0xaa ∷ 0xbb ∷ 0x00 ∷ 0x04 ∷ []
-
-rust-12 : (build : Build) → assemble build 128 showStore [] ≡ done (assembled (0 ∷ 4 ∷ replicate 126 0) showCode)
-unfolding assemble converge startFrom walkFrom iterate emitFrom emitRef emitBytes index indexMut addU32 subU32 checkedSub range bytesToHold leBytes saturatingSub
-rust-12 build = refl
+show-assembles = assembles showStore 2 refl refl refl
 
 abbrev showOurs : List ℕ → Outcome
 showOurs result = assembly wordsPerSection (built showBytes showWords showCalls) 2 result 0
-
--- the text that 01 prints
-abbrev showText : List ℕ
-showText =
-    asBytes ".mark0:\n"
-    ++ asBytes "  JUMPDEST\n"
-    ++ asBytes "  PUSH .mark1\n"
-    ++ asBytes "  JUMP\n"
-    ++ asBytes ".mark1:\n"
-    ++ asBytes "  JUMPDEST\n"
-    ++ asBytes "  data 0xaabb (2 bytes)\n"
-    ++ asBytes "  RAW (.mark1 - .mark0):2\n"
-
-rust-text-12 : writeAsm showStore ≡ done showText
-unfolding writeAsm textFrom range markLine dataLine fmtOps fmtOpsFrom pushLine pushSize hexBytes hexDigit displayed digitsBefore fmtMarkRef asBytes opName lookup opNames
-rust-text-12 = refl
 
 -- line 12, the code
 pub line-12 : (result : List ℕ) → 9 ≤ length result
@@ -246,7 +186,7 @@ pub line-12 : (result : List ℕ) → 9 ≤ length result
     × (entry (showOurs result .table) 0 ≡ 0) × (entry (showOurs result .table) 1 ≡ 4)
 unfolding placed index
 line-12 result fits =
-    let same = demand-2 release showBytes showWords showCalls showStore (show-builds release) .assembly 2 128 show-assembles [] result 0 in
+    let same = demand-2 release showBytes showWords showCalls showStore (show-builds release) .assembly 2 show-assembles doubling doubling-reserves none [] result 0 in
     let q = carried showStore (0 ∷ 4 ∷ replicate 126 0) showCode result (showOurs result) (subst (SameAssembly showStore [] result 0 (showOurs result)) (rust-12 release) same) fits in
     (q .0, q .1, q .2, sym (done-inj (q .3 0 refl)), sym (done-inj (q .3 1 refl)))
 
@@ -260,27 +200,3 @@ line-12-text buffer fits =
       subst (λ (t : List ℕ). length t ≤ length buffer → listingReply wordsPerSection (built showBytes showWords showCalls) buffer ≡ accepted (length t)) is (same .reply buffer) fits,
       subst (λ (t : List ℕ). length t ≤ length buffer → listingBuffer wordsPerSection (built showBytes showWords showCalls) buffer ≡ t ++ drop (length t) buffer) is (same .holds buffer) fits,
     )
-
--- ---- a reference behind a moved mark is sized by the mark's new offset
-
--- raw ref 0 of size 1, pushed ref 1, 252 bytes, mark 0, raw ref 0 of size 1, 300 bytes, mark 1: the start has mark 0 at 254, and in the
--- first walk the pushed reference takes three bytes, so mark 0 moves to 256, past what one byte holds. The reference before the mark has
--- been sized by 254; the one behind it is too small.
-abbrev behindStore : Assembler
-behindStore =
-    record {
-      bytes = replicate 552 0;
-      sections =
-          DirectMarkRef 0 (Sized S1) false
-          ∷ DirectMarkRef 1 Unsized true
-          ∷ Data (record { start = 0; end = 252 })
-          ∷ Mark 0
-          ∷ DirectMarkRef 0 (Sized S1) false
-          ∷ Data (record { start = 252; end = 552 })
-          ∷ Mark 1
-          ∷ [];
-    }
-
-pub rust-behind : (build : Build) → assemble build 128 behindStore [] ≡ done (tooSmallSetSize 4)
-unfolding assemble converge startFrom walkFrom iterate index indexMut addU32 subU32 bytesToHold
-rust-behind build = refl

@@ -1,7 +1,6 @@
 -- The settling doesn't depend on the table's length: two tables that have an entry for every placed mark are settled alike. So the Rust's
 -- table, as long as its allocator makes it, and a lent one come to the same. Assumes nothing.
 use Prim.Native.Nat.{ℕ, zero, suc, _+_, _-_, _<_}
-use native.Mathlib.Omega.{arith}
 use mathlib.Core.Path.{_≡_, refl, sym, ap, _∙_, subst}
 use mathlib.Core.Bool.{Bool, true, false, cond, not, _||_, true≢false}
 use mathlib.Core.List.{List, [], _∷_}

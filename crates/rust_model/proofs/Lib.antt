@@ -1,3 +1,4 @@
+pub mod AnswersComputed
 pub mod Spans
 pub mod Runs
 pub mod Minimal
@@ -6,11 +7,14 @@ pub mod Adds
 pub mod Last
 pub mod Bytes
 pub mod Pushes
+pub mod Converse
 pub mod Building
 pub mod Steps
+pub mod TableGrowth
 pub mod Offsets
 pub mod Lent
 pub mod Emission
+pub mod PlacedApart
 pub mod Assembly
 pub mod Text
 pub mod Ops

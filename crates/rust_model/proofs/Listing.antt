@@ -4,7 +4,7 @@ use mathlib.Core.Path.{_≡_, refl, ap}
 use mathlib.Core.List.{List, [], _∷_, _++_, map}
 use lib.ListN.{length, drop}
 use lib.Seq.{slice}
-use borrow.Author.Tests.{le-leb, le-ltb}
+use borrow.Author.Tests.{le-ltb}
 use Rattle.records.specs.Store.{Store, wordsPerSection}
 use Rattle.records.specs.Sections.{Section, decode}
 use Rattle.undamaged.specs.View.{Undamaged}
@@ -12,12 +12,12 @@ use Rattle.listing.specs.Listing.{listing}
 use Rattle.listing.specs.Listing as ours
 use Rattle.units.specs.Reply.{accepted}
 use Rattle.listing.specs.Answer.{listingReply, listingBuffer}
-use Rattle.rust_model.specs.Run.{done, range}
-use Rattle.rust_model.specs.Building.{Span, Assembler}
+use Rattle.rust_model.specs.Run.{done}
+use Rattle.rust_model.specs.Building.{Assembler}
 use Rattle.rust_model.specs.Sections.{AsmSection, Mark, Ops, Data, MarkRef, iterSections}
 use Rattle.rust_model.specs.Display.{sectionText, textFrom, writeAsm}
 use Rattle.rust_model.specs.Demand2.{seen, sectionsOf, SameListing}
-use Rattle.rust_model.proofs.Spans.{SpanIn, SectionIn, EveryIn, Spans}
+use Rattle.rust_model.proofs.Spans.{SectionIn, EveryIn, Spans}
 use Rattle.rust_model.proofs.Steps.{range-done}
 use Rattle.rust_model.proofs.Text.{mark-same, data-same, reference-same}
 use Rattle.rust_model.proofs.Ops.{ops-same}

@@ -1,5 +1,5 @@
 -- `converge_mark_offsets` against the settling: by a table of the same length the two are the same, step by step. Assumes nothing.
-use Prim.Native.Nat.{ℕ, zero, suc, _+_, _*_, _≤_, _<_}
+use Prim.Native.Nat.{ℕ, zero, suc, _+_, _*_, _<_}
 use native.Mathlib.Nat.{add-zero}
 use native.Mathlib.Omega.{arith}
 use mathlib.Core.Path.{_≡_, refl, sym, ap, _∙_, subst}
@@ -11,7 +11,6 @@ use lib.ListN.{length, set, replicate, length-set, length-replicate}
 use lib.Seq.{slice}
 use Rattle.units.specs.Reference.{leastSize, size, tooNarrow}
 use Rattle.units.specs.declared.AsmReference.{AsmReference}
-use Rattle.units.specs.Replies.{maxPasses}
 use Rattle.records.specs.Sections.{Section, mark, ops, bytes, reference}
 use Rattle.layout.specs.Passes.{entry, valueBy, startFrom, start, Walked, through, leftAt, unlike, walkFrom, pass, Settling, settled, narrowAt, unsettled, ended, passes, settle}
 use Rattle.layout.specs.Conditions.{sumOf, storedBytes, references}
@@ -19,10 +18,11 @@ use Rattle.slices.proofs.Tests.{cond-case}
 use Rattle.settling.proofs.Sections.{size-small, least-small}
 use Rattle.rust_model.specs.Run.{Run, done, panic, andThen, Build, addU32, indexMut}
 use Rattle.rust_model.specs.Sections.{AsmSection, Mark, Ops, Data, MarkRef, minCompiledSize, compiledSize, refSizeFor, bytesToHold}
-use Rattle.rust_model.specs.Assemble.{startMark, Walk, walked, tooSmall, moveMark, walkMark, orTooSmall, Converged, ok, refHasTooSmallSetSize, decide, afterWalk, iterate, converge}
+use Rattle.rust_model.specs.Assemble.{startMark, Walk, walked, tooSmall, moveMark, walkMark, orTooSmall, Converged, ok, refHasTooSmallSetSize, afterWalk, iterate, converge}
 use Rattle.rust_model.specs.Assemble as rust
 use Rattle.rust_model.specs.Demand2.{seen}
-use Rattle.rust_model.proofs.Spans.{SectionIn, EveryIn}
+use Rattle.rust_model.proofs.Spans.{EveryIn}
+use Rattle.rust_model.proofs.TableGrowth.{exact, grow-exact}
 use Rattle.rust_model.proofs.Steps.{add-done, index-done, set-done, span-done, min-same, ref-size-same, MarksIn, value-done}
 
 -- ---- what the walks need
@@ -65,25 +65,29 @@ rustSettling unsettled = panic
 module _ (build : Build) (bs : List ℕ) where
   -- ---- the start table
 
-  start-step : (s : AsmSection) (rs : List AsmSection) (min : ℕ) (t : List ℕ) (t′ : List ℕ) (n : ℕ) → startMark s min t ≡ done t′
-      → minCompiledSize build s ≡ done n → min + n < 4294967296 → rust.startFrom build (s ∷ rs) min t ≡ rust.startFrom build rs (min + n) t′
+  start-step : (s : AsmSection) (rs : List AsmSection) (min : ℕ) (t : List ℕ) (t′ : List ℕ) (n : ℕ) → startMark exact s min t ≡ done t′
+      → minCompiledSize build s ≡ done n → min + n < 4294967296 → rust.startFrom build exact (s ∷ rs) min t ≡ rust.startFrom build exact rs (min + n) t′
   unfolding rust.startFrom
   start-step s rs min t t′ n e q h =
-      ap (λ (x : Run (List ℕ)). andThen x (λ table. andThen (minCompiledSize build s) (λ size. andThen (addU32 build min size) (λ min′. rust.startFrom build rs min′ table)))) e
-      ∙ ap (λ (x : Run ℕ). andThen x (λ size. andThen (addU32 build min size) (λ min′. rust.startFrom build rs min′ t′))) q
-      ∙ ap (λ (x : Run ℕ). andThen x (λ min′. rust.startFrom build rs min′ t′)) (add-done build min n h)
+      ap (λ (x : Run (List ℕ)). andThen x (λ table. andThen (minCompiledSize build s) (λ size. andThen (addU32 build min size) (λ min′. rust.startFrom build exact rs min′ table)))) e
+      ∙ ap (λ (x : Run ℕ). andThen x (λ size. andThen (addU32 build min size) (λ min′. rust.startFrom build exact rs min′ t′))) q
+      ∙ ap (λ (x : Run ℕ). andThen x (λ min′. rust.startFrom build exact rs min′ t′)) (add-done build min n h)
 
   least-done : (r : AsmReference) → minCompiledSize build (MarkRef r) ≡ done (leastSize r)
   unfolding leastSize
   least-done r = ap done (min-same (r .«set_size») (r .pushed))
 
+  -- at a mark, of a table that has an entry for it
+  mark-start : (id min : ℕ) (t : List ℕ) → id < length t → startMark exact (Mark id) min t ≡ done (set t id min)
+  mark-start id min t h = ap (λ (x : List ℕ). indexMut x id min) (grow-exact t id h) ∙ set-done t id min h
+
   start-same : (rs : List AsmSection) (min : ℕ) (t : List ℕ) → EveryIn bs rs → EveryMap (length t) rs → min + need (seenAll bs rs) < 4294967296
-      → rust.startFrom build rs min t ≡ done (startFrom (seenAll bs rs) min t)
+      → rust.startFrom build exact rs min t ≡ done (startFrom (seenAll bs rs) min t)
   unfolding startFrom rust.startFrom sumOf
   start-same [] min t i m h = refl
   start-same (Mark id ∷ rs) min t i m h =
-      start-step (Mark id) rs min t (set t id min) 0 (set-done t id min (m .0)) refl (omega arith)
-      ∙ ap (λ (k : ℕ). rust.startFrom build rs k (set t id min)) (add-zero min)
+      start-step (Mark id) rs min t (set t id min) 0 (mark-start id min t (m .0)) refl (omega arith)
+      ∙ ap (λ (k : ℕ). rust.startFrom build exact rs k (set t id min)) (add-zero min)
       ∙ start-same rs min (set t id min) (i .1) (subst (λ (n : ℕ). EveryMap n rs) (sym (length-set t id min)) (m .1)) (omega arith)
   start-same (Ops span ∷ rs) min t i m h =
       start-step (Ops span) rs min t t (length (slice (span .start) (span .end) bs)) refl (span-done build bs span (i .0)) (omega arith)
@@ -214,9 +218,9 @@ module _ (build : Build) (bs : List ℕ) where
       go (through sum false t′) e next = refl
       go (through sum true t′) e next = next t′ e
 
--- `converge_mark_offsets` by a table of length n is the settling by a table of length n
+-- `converge_mark_offsets` by a table of length n that never grows is the settling by a table of length n
 pub converge-same : (build : Build) (bs : List ℕ) (n : ℕ) (rs : List AsmSection) → EveryIn bs rs → EveryMap n rs → need (seenAll bs rs) < 4294967296
-    → converge build n rs ≡ rustSettling (settle n (seenAll bs rs))
+    → converge build exact rs (replicate n 0) ≡ rustSettling (settle n (seenAll bs rs))
 unfolding converge settle start
 converge-same build bs n rs i m h =
     let t : List ℕ = replicate n 0 in

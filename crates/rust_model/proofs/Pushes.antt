@@ -22,7 +22,7 @@ use Rattle.calls.specs.Calls.{Push, pushMark, pushOpByte, pushSwap, pushDup, pu
 use Rattle.evm.specs.Opcodes as evm
 use Rattle.calls.specs.Lists.{afterLast, addedAfter, addedTo}
 use Rattle.rust_model.specs.Run.{done, andThen, Build}
-use Rattle.rust_model.specs.Building.{Assembler, Mark, opByte, opBytes, swapOp, dupOp, swap, dup, exchange, minimal, u256, storedRef, pushCall}
+use Rattle.rust_model.specs.Building.{Assembler, Mark, opByte, opBytes, lastSwapArm, swapOp, lastDupArm, dupOp, swap, dup, exchange, minimal, u256, storedRef, pushCall}
 use Rattle.rust_model.specs.Sections.{MarkRef, fromStored}
 use Rattle.rust_model.specs.Demand2.{sectionsOf}
 use Rattle.rust_model.proofs.Runs.{panic-done, done-inj, andThen-done, cond-done}
@@ -43,11 +43,12 @@ swapped : (a a′ : Assembler) (d : ℕ) → swap a d ≡ done a′ → (1 ≤ d
 unfolding swap swapOp
 swapped a a′ d r =
     let r₁ = andThen-done (swapOp d) (opByte a) a′ r in
-    let r₂ = cond-done (leb 1 d && leb d 16) (done (0x90 + (d - 1))) (r₁ .0) (r₁ .1) in
-    let t = and-true (leb 1 d) (leb d 16) .0 (r₂ .0) in
+    let r₂ = cond-done (leb 1 d && leb d lastSwapArm) (done (0x90 + (d - 1))) (r₁ .0) (r₁ .1) in
+    let t = and-true (leb 1 d) (leb d lastSwapArm) .0 (r₂ .0) in
     let low : 1 ≤ d = leb-true 1 d (t .0) in
+    let high : d ≤ 16 = omega (arith, leb-true d lastSwapArm (t .1)) in
     let op : 0x90 + (d - 1) ≡ 0x8f + d = omega arith in
-    (low, leb-true d 16 (t .1), subst (λ (x : ℕ). opByte a x ≡ done a′) (sym (done-inj (r₂ .1)) ∙ op) (r₁ .2))
+    (low, high, subst (λ (x : ℕ). opByte a x ≡ done a′) (sym (done-inj (r₂ .1)) ∙ op) (r₁ .2))
 
 swap-pushed : (a a′ : Assembler) (d : ℕ) → Kept a → swap a d ≡ done a′ → Pushed (pushSwap d) a a′
 swap-pushed a a′ d k r =
@@ -63,9 +64,9 @@ dup-pushed : (a a′ : Assembler) (d : ℕ) → Kept a → dup a d ≡ done a′
 unfolding dup dupOp
 dup-pushed a a′ d k r =
     let r₁ = andThen-done (dupOp d) (opByte a) a′ r in
-    let r₂ = cond-done (leb d 15) (done (0x80 + d)) (r₁ .0) (r₁ .1) in
+    let r₂ = cond-done (leb d lastDupArm) (done (0x80 + d)) (r₁ .0) (r₁ .1) in
     record {
-      depth = le-ltb 15 d (leb-true d 15 (r₂ .0));
+      depth = le-ltb 15 d (omega (arith, leb-true d lastDupArm (r₂ .0)));
       word = refl;
       adds = op-byte a a′ (0x80 + d) k (subst (λ (x : ℕ). opByte a x ≡ done a′) (sym (done-inj (r₂ .1))) (r₁ .2));
     }

@@ -30,6 +30,11 @@ pub andThen-last : {A : Type 0} (r : Run A) → andThen r done ≡ r
 andThen-last (done x) = refl
 andThen-last panic = refl
 
+-- next steps that are the same from every value
+pub andThen-same : {A B : Type 0} (r : Run A) (f g : A → Run B) → ((x : A) → f x ≡ g x) → andThen r f ≡ andThen r g
+andThen-same (done x) f g h = h x
+andThen-same panic f g h = refl
+
 -- a value after a test that panics where it fails
 pub cond-done : {A : Type 0} (b : Bool) (r : Run A) (y : A) → cond b r panic ≡ done y → (b ≡ true) × (r ≡ done y)
 cond-done true r y e = (refl, e)

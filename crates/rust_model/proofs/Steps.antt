@@ -3,24 +3,24 @@ use Prim.Native.Nat.{ℕ, _+_, _-_, _≤_, _<_}
 use native.Mathlib.Nat.{add-comm, add-zero}
 use native.Mathlib.Omega.{arith}
 use mathlib.Core.Path.{_≡_, refl, sym, ap, _∙_}
-use mathlib.Core.Bool.{Bool, true, false, cond, _&&_}
-use mathlib.Core.List.{List}
-use mathlib.Core.Option.{Option, none, some}
+use mathlib.Core.Bool.{Bool, true, false, cond}
+use mathlib.Core.List.{List, [], _∷_, _++_}
+use mathlib.Core.Option.{none, some}
 use lib.Dec.{leb, ltb, eqb}
 use lib.ListN.{length, getD, set}
 use lib.Seq.{slice, length-slice}
-use borrow.Author.Tests.{ltb-true, ltb-false, lt-ltb, le-leb}
+use borrow.Author.Tests.{ltb-true, lt-ltb, le-leb}
 use Rattle.units.specs.Numbers.{heldBytes}
-use Rattle.units.specs.Reference.{refSizeBytes, opBytes, narrow, tooNarrow, least, width, leastSize, size}
+use Rattle.units.specs.Reference.{refSizeBytes, narrow, least, width}
 use Rattle.units.specs.declared.RefSize.{RefSize}
 use Rattle.units.specs.declared.RefSize.the-variants.{S1, S2, S3, S4}
 use Rattle.units.specs.declared.SetSize.{SetSize}
 use Rattle.units.specs.declared.SetSize.the-variants.{Unsized, Sized}
 use Rattle.units.specs.declared.MarkReference.{MarkReference}
 use Rattle.units.specs.declared.MarkReference.the-variants.{Direct, Delta}
-use Rattle.slices.proofs.Tests.{cond-true, cond-false}
+use Rattle.slices.proofs.Tests.{cond-true}
 use Rattle.layout.specs.Passes.{entry, valueBy}
-use Rattle.rust_model.specs.Run.{Run, done, panic, andThen, Build, addU32, subU32, checkedSub, index, indexMut, range}
+use Rattle.rust_model.specs.Run.{done, panic, Build, addU32, subU32, checkedSub, index, indexMut, range, lenIdx, pushed}
 use Rattle.rust_model.specs.Building.{Span}
 use Rattle.rust_model.specs.Sections.{asU32, bytesToHold, minRefSize, saturatingSub, walkValue, refSizeFor}
 use Rattle.rust_model.proofs.Spans.{SpanIn}
@@ -50,6 +50,18 @@ set-done xs i v h = cond-true (ltb i (length xs)) (done (set xs i v)) panic (lt-
 pub range-done : (bs : List ℕ) (s : Span) → SpanIn bs s → range bs (s .start) (s .end) ≡ done (slice (s .start) (s .end) bs)
 unfolding range
 range-done bs s h = rw (le-leb (s .start) (s .end) (h .ordered), le-leb (s .end) (length bs) (h .within))
+
+-- the largest index
+abbrev pub maxIndex : ℕ
+maxIndex = 4294967294
+
+pub len-done : (xs : List ℕ) → length xs ≤ maxIndex → lenIdx xs ≡ done (length xs)
+unfolding lenIdx
+len-done xs h = cond-true (leb (length xs) maxIndex) (done (length xs)) panic (le-leb _ _ h)
+
+pub push-done : (xs : List ℕ) (x : ℕ) → length xs ≤ maxIndex → pushed xs x ≡ done (xs ++ (x ∷ []))
+unfolding pushed
+push-done xs x h = rw (len-done xs h)
 
 -- the length of a span is that of its bytes
 pub span-done : (build : Build) (bs : List ℕ) (s : Span) → SpanIn bs s → subU32 build (s .end) (s .start) ≡ done (length (slice (s .start) (s .end) bs))

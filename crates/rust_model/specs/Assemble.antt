@@ -1,12 +1,12 @@
 -- The Rust's `converge_mark_offsets` and `assemble`, written from lib.rs. Its offset table has as many zeros as the hint says, or 128, and
--- grows by zeros at each mark that it lacks, to a length that its allocator chooses. Here its last length is a parameter, any that is
--- above the largest placed mark: a table that grows to it, and one that has it from the start, hold the same. Assumes nothing.
-use Prim.Native.Nat.{ℕ, zero, suc, _+_, _-_}
+-- grows by zeros at each mark that it lacks, to a capacity that the vector and its allocator choose: that choice is a parameter. They
+-- always find the memory here. Assumes nothing else.
+use Prim.Native.Nat.{ℕ, zero, suc, _+_, _-_, _≤_}
 use mathlib.Core.Bool.{Bool, true, false, cond, _&&_}
 use mathlib.Core.List.{List, [], _∷_, _++_, reverse}
 use mathlib.Core.Option.{Option, none, some}
 use lib.Dec.{ltb, eqb}
-use lib.ListN.{replicate, take}
+use lib.ListN.{length, replicate, take}
 use Rattle.units.specs.declared.RefSize.{RefSize}
 use Rattle.units.specs.declared.SetSize.{SetSize}
 use Rattle.units.specs.declared.SetSize.the-variants.{Unsized, Sized}
@@ -15,25 +15,44 @@ use Rattle.units.specs.declared.MarkReference.the-variants.{Direct, Delta}
 use Rattle.rust_model.specs.Run.{Run, done, panic, andThen, Build, addU32, checkedSub, index, indexMut, range}
 use Rattle.rust_model.specs.Building.{Assembler, leBytes}
 use Rattle.rust_model.specs.Sections.{AsmSection, Mark, Ops, Data, MarkRef, iterSections}
-use Rattle.rust_model.specs.Sections.{asU32, bytesToHold, minCompiledSize, compiledSize}
+use Rattle.rust_model.specs.Sections.{asU32, bytesToHold, minCompiledSize, saturatingSub, compiledSize}
+
+-- ---- the table's growth
+
+-- `capacity()` after `reserve(additional)`, from the table's length and the additional entries. The length is then made the capacity, so
+-- the same two numbers come again only where the answer was that length: in one run a vector's answers are always such a function.
+abbrev pub Reserve : Type 0
+Reserve = ℕ → ℕ → ℕ
+
+-- what `Vec::reserve` promises: 'capacity will be greater than or equal to `self.len() + additional`'
+abbrev pub Reserves : Reserve → Type 0
+Reserves reserve = (len additional : ℕ) → len + additional ≤ reserve len additional
+
+-- `resize(cap, 0)`
+unfoldable pub resize : List ℕ → ℕ → List ℕ
+resize table cap = take cap table ++ replicate (cap - length table) 0
+
+-- `additional_to_reserve`, `reserve`, `capacity` and `resize`: room for `id`, and 'maintain `length == capacity`'
+unfoldable pub grow : Reserve → List ℕ → ℕ → List ℕ
+grow reserve table id = resize table (reserve (length table) (saturatingSub (id + 1) (length table)))
 
 -- ---- the start table
 
--- `mark_to_offset[id] = min_size`, at a mark
-abbrev pub startMark : AsmSection → ℕ → List ℕ → Run (List ℕ)
-startMark (Mark id) min table = indexMut table id min
-startMark (Ops span) min table = done table
-startMark (Data span) min table = done table
-startMark (MarkRef r) min table = done table
+-- at a mark: the table grows, and `mark_to_offset[id] = min_size`
+abbrev pub startMark : Reserve → AsmSection → ℕ → List ℕ → Run (List ℕ)
+startMark reserve (Mark id) min table = indexMut (grow reserve table id) id min
+startMark reserve (Ops span) min table = done table
+startMark reserve (Data span) min table = done table
+startMark reserve (MarkRef r) min table = done table
 
 -- the first loop, from `min_size` and the table so far
-unfoldable pub startFrom : Build → List AsmSection → ℕ → List ℕ → Run (List ℕ)
-startFrom build [] min table = done table
-startFrom build (s ∷ ss) min table =
-    andThen (startMark s min table) (λ table′.
+unfoldable pub startFrom : Build → Reserve → List AsmSection → ℕ → List ℕ → Run (List ℕ)
+startFrom build reserve [] min table = done table
+startFrom build reserve (s ∷ ss) min table =
+    andThen (startMark reserve s min table) (λ table′.
     andThen (minCompiledSize build s) (λ size.
     andThen (addU32 build min size) (λ min′.
-    startFrom build ss min′ table′)))
+    startFrom build reserve ss min′ table′)))
 
 -- ---- one iteration
 
@@ -102,9 +121,9 @@ iterate build (suc left) ss table =
 abbrev pub maxIterations : ℕ
 maxIterations = 1024
 
--- `converge_mark_offsets`, by a table that has length n in the end
-unfoldable pub converge : Build → ℕ → List AsmSection → Run Converged
-converge build n ss = andThen (startFrom build ss 0 (replicate n 0)) (iterate build maxIterations ss)
+-- `converge_mark_offsets`, of a table `mark_to_offset`
+unfoldable pub converge : Build → Reserve → List AsmSection → List ℕ → Run Converged
+converge build reserve ss table = andThen (startFrom build reserve ss 0 table) (iterate build maxIterations ss)
 
 -- ---- emission
 
@@ -170,6 +189,11 @@ abbrev pub emission : Assembler → List ℕ → Converged → Run Assembled
 emission a result (ok table) = andThen (emitFrom (a .bytes) table (iterSections a) result) (λ result′. done (assembled table result′))
 emission a result (refHasTooSmallSetSize i) = done (tooSmallSetSize i)
 
--- `assemble`, appending to a result, by a table that has length n in the end
-unfoldable pub assemble : Build → ℕ → Assembler → List ℕ → Run Assembled
-assemble build n a result = andThen (converge build n (iterSections a)) (emission a result)
+-- `mark_id_count_hint.unwrap_or(ASSUMED_MARK_COUNT_WITHOUT_HINT)`
+abbrev pub markCount : Option ℕ → ℕ
+markCount none = 128
+markCount (some hint) = hint
+
+-- `assemble`, with a hint or without, appending to a result
+unfoldable pub assemble : Build → Reserve → Option ℕ → Assembler → List ℕ → Run Assembled
+assemble build reserve hint a result = andThen (converge build reserve (iterSections a) (replicate (markCount hint) 0)) (emission a result)

@@ -125,13 +125,20 @@ opBytes a (b ∷ bs) = andThen (opByte a b) (λ a′. opBytes a′ bs)
 
 -- ---- swap, dup, exchange
 
--- `match depth`: 1 to 16 are SWAP1 to SWAP16, hex 90 to 9f, all else panics
+-- the last arm of `match depth`
+abbrev pub lastSwapArm : ℕ
+lastSwapArm = 16
+
+-- 1 to 16 are SWAP1 to SWAP16, hex 90 to 9f, all else panics
 unfoldable pub swapOp : ℕ → Run ℕ
-swapOp depth = cond (leb 1 depth && leb depth 16) (done (0x90 + (depth - 1))) panic
+swapOp depth = cond (leb 1 depth && leb depth lastSwapArm) (done (0x90 + (depth - 1))) panic
+
+abbrev pub lastDupArm : ℕ
+lastDupArm = 15
 
 -- 0 to 15 are DUP1 to DUP16, hex 80 to 8f, all else panics
 unfoldable pub dupOp : ℕ → Run ℕ
-dupOp depth = cond (leb depth 15) (done (0x80 + depth)) panic
+dupOp depth = cond (leb depth lastDupArm) (done (0x80 + depth)) panic
 
 -- `push_swap`
 unfoldable pub swap : Assembler → ℕ → Run Assembler

@@ -2,11 +2,12 @@
 -- between its placings, 01's limits hold and no lent slice is too short, the code, placed marks' offsets, section of a too-small set size
 -- and listing equal the Rust's.' The Rust is the definitions beside this one; ours are those that the contracts of the building calls,
 -- `assemble` and `write_asm` cite. Its proof is in proofs/Demand2. Assumes nothing.
-use Prim.Native.Nat.{ℕ, _+_, _*_, _≤_, _<_}
+use Prim.Native.Nat.{ℕ, _+_, _*_, _≤_}
 use mathlib.Core.Path.{_≡_}
 use mathlib.Core.Bool.{true, false}
-use mathlib.Core.Logic.{_⊎_}
+use mathlib.Core.Logic.{_⊎_, _↔_}
 use mathlib.Core.List.{List, [], _∷_, _++_, map}
+use mathlib.Core.Option.{Option}
 use lib.ListN.{length, drop}
 use lib.Seq.{slice}
 use Rattle.units.specs.Replies.{tooNarrow, unsettled, backward}
@@ -23,7 +24,7 @@ use Rattle.listing.specs.Answer.{listingReply, listingBuffer}
 use Rattle.rust_model.specs.Run.{Run, done, panic, Build, index}
 use Rattle.rust_model.specs.Building.{Assembler, empty, call, calls}
 use Rattle.rust_model.specs.Sections.{AsmSection, Mark, Ops, Data, MarkRef, iterSections}
-use Rattle.rust_model.specs.Assemble.{Assembled, assembled, tooSmallSetSize, assemble}
+use Rattle.rust_model.specs.Assemble.{Reserve, Reserves, Assembled, assembled, tooSmallSetSize, assemble}
 use Rattle.rust_model.specs.Display.{writeAsm}
 
 -- ---- the Rust's list as the list view has it: the bytes of Ops and Data in the sections
@@ -81,16 +82,14 @@ pub record SameStore (bs words : List ℕ) (cs : List Call) (a : Assembler) : Ty
 
 -- ---- assembly
 
--- the premises on the sections, and on the lent table's length and the length of the Rust's own
-pub record Assembles (a : Assembler) (lent own : ℕ) : Type 0 where
+-- the premises on the sections, and on the lent table's length
+pub record Assembles (a : Assembler) (lent : ℕ) : Type 0 where
   -- 'every named mark is placed'
   pub marksPlaced : Never (sectionsOf a) (unplacedAt (sectionsOf a))
   -- 'none has bytes between its placings': no mark, named or not, as in demand 3 and in number 9
   pub together : Never (sectionsOf a) (apartAt (sectionsOf a))
   -- 'no lent slice is too short': the table
   pub inTable : Never (sectionsOf a) (shortAt lent (sectionsOf a))
-  -- the Rust grows its table past every mark that it places
-  pub grown : (m : ℕ) → placed (sectionsOf a) m ≡ true → m < own
 
 -- the code that the Rust appended to `before` is the code that ours wrote, and placed marks are where they are there
 pub record SameCode (a : Assembler) (before table result′ : List ℕ) (result : List ℕ) (position : ℕ) (ours : Outcome) : Type 0 where
@@ -128,8 +127,24 @@ pub record SameListing (a : Assembler) (st : Store) : Type 0 where
 -- of the Rust as it is built
 pub record Demand2 (build : Build) (bs words : List ℕ) (cs : List Call) (a : Assembler) : Type 0 where
   pub store : SameStore bs words cs a
-  -- by every length of the Rust's table, whatever its result held before
-  pub assembly : (lent own : ℕ) → Assembles a lent own → (before result : List ℕ) (position : ℕ)
+  -- however the Rust's table grows, from whatever hint, and whatever its result held before
+  pub assembly : (lent : ℕ) → Assembles a lent → (reserve : Reserve) → Reserves reserve → (hint : Option ℕ)
+      → (before result : List ℕ) (position : ℕ)
       → SameAssembly a before result position
-      (assembly wordsPerSection (built bs words cs) lent result position) (assemble build own a before)
+      (assembly wordsPerSection (built bs words cs) lent result position) (assemble build reserve hint a before)
   pub listing : SameListing a (built bs words cs)
+
+-- ---- beside the demand
+
+-- our calls are all accepted exactly where the Rust's don't panic, limits hold and the two slices are long enough. So no building call of
+-- the Rust, as it is defined here, panics where ours is accepted, and `Demand2` holds of every list that ours accepts.
+abbrev pub SameAcceptance : Build → List ℕ → List ℕ → List Call → Type 0
+SameAcceptance build bs words cs =
+    ((a : Assembler) × Builds build bs words cs a) ↔ EveryStored (runReplies wordsPerSection cs (opened bs words))
+
+-- where the Rust answers code, no mark, named or not, has bytes between its placings. So the premise `together` of `Assembles` leaves out
+-- no code: only lists on which the Rust panics, since it never settles, or reports a too small set size.
+abbrev pub CodeTogether : Build → Assembler → Type 0
+CodeTogether build a =
+    (reserve : Reserve) (hint : Option ℕ) (before table result : List ℕ)
+    → assemble build reserve hint a before ≡ done (assembled table result) → Never (sectionsOf a) (apartAt (sectionsOf a))

@@ -1,6 +1,6 @@
 -- What the Rust comes to: a value or a panic; and the steps of it that can panic. Written from plank-core's index.rs, index_vec/mod.rs
--- and span.rs, and from the language: an index past the end panics in every build, a `u32` that overflows panics in a debug build and
--- wraps round in a release build, and only a debug build has `debug_assert!`. Assumes nothing.
+-- and span.rs, and from the language: an index past the end panics in every build; a `u32` that overflows panics where overflow checks
+-- are on and else wraps round; `debug_assert!` is there where debug assertions are on. Assumes nothing.
 use Prim.Native.Nat.{ℕ, _+_, _-_, _%_}
 use mathlib.Core.Bool.{Bool, cond, _&&_}
 use mathlib.Core.List.{List, [], _∷_, _++_}
@@ -17,15 +17,15 @@ abbrev pub andThen : {A B : Type 0} → Run A → (A → Run B) → Run B
 andThen (done x) next = next x
 andThen panic next = panic
 
--- how the Rust is built
-pub data Build : Type 0 where
-  debug : Build
-  release : Build
+-- how the Rust is built: rustc's switches `-C overflow-checks` and `-C debug-assertions`. A build profile sets each by itself: `dev` has
+-- both on, `release` both off.
+pub record Build : Type 0 where
+  pub overflowChecks : Bool
+  pub debugAssertions : Bool
 
 -- a result that is out of range, and what is left of it modulo 2^32
 abbrev pub overflow : Build → ℕ → Run ℕ
-overflow debug wrapped = panic
-overflow release wrapped = done wrapped
+overflow build wrapped = cond (build .overflowChecks) panic (done wrapped)
 
 -- `a + b` of two `u32`
 unfoldable pub addU32 : Build → ℕ → ℕ → Run ℕ
@@ -41,8 +41,7 @@ checkedSub a b = cond (leb b a) (done (a - b)) panic
 
 -- `debug_assert!(test)`, then what follows
 abbrev pub debugAssert : {A : Type 0} → Build → Bool → Run A → Run A
-debugAssert debug test next = cond test next panic
-debugAssert release test next = next
+debugAssert build test next = cond (build .debugAssertions) (cond test next panic) next
 
 -- `xs[i]`
 unfoldable pub index : List ℕ → ℕ → Run ℕ

@@ -24,7 +24,7 @@ use Rattle.undamaged.proofs.Reading.{direct, delta, Reads, is-damaged, is-mark,
 use Rattle.undamaged.proofs.Forms.{form-read}
 use Rattle.slices.proofs.Tests.{and-false-left}
 use Rattle.layout.specs.Passes.{entry, valueBy}
-use Rattle.layout.specs.Conditions.{placesSome, namesSome, refers, backwardBy}
+use Rattle.layout.specs.Conditions.{placesSome, namesSome, refers, backwardBy, isDelta}
 use Rattle.layout.proofs.Moves.{widthBy}
 use Rattle.settling.specs.SectionWalk.{shortWords, MarksIn, unplacedWords, backwardWords, valueWords, leastWords, sizeWords}
 
@@ -116,6 +116,14 @@ module _ {x : StoredSection} where
   backward-words table (data-words f l bs d) = rw f
   backward-words table (direct-words f s p g) = rw f
   backward-words table (delta-words l s p g) = rw (lt-ltb directKind (x .kind) l)
+
+  -- a delta, by its kind word
+  pub delta-kind : {s : Section} → Words x s → ltb directKind (x .kind) ≡ refers isDelta s
+  delta-kind (mark-words f) = rw f
+  delta-kind (ops-words f l bs d) = rw f
+  delta-kind (data-words f l bs d) = rw f
+  delta-kind (direct-words f s p g) = rw f
+  delta-kind (delta-words l s p g) = lt-ltb directKind (x .kind) l
 
   -- least sizes
   pub least-words : {s : Section} → Words x s → (x .kind ≡ markKind → ⊥) → leastWords x ≡ widthBy leastSize s

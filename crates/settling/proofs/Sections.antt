@@ -5,8 +5,9 @@ use native.Mathlib.Nat.{add-zero, zero-add, le-refl}
 use native.Mathlib.Numerals.{add-one}
 use native.Mathlib.Omega.{arith}
 use mathlib.Core.Path.{_≡_, refl, sym, ap, _∙_, subst}
-use mathlib.Core.Bool.{true, cond}
+use mathlib.Core.Bool.{true, false, cond}
 use mathlib.Core.List.{List, [], _∷_, _++_}
+use lib.Dec.{ltb}
 use lib.ListN.{length, getD, take}
 use lib.Seq.{take-all}
 use borrow.Author.Tests.{ne-eqb}
@@ -14,7 +15,7 @@ use Rattle.units.specs.Reference.{leastSize, size}
 use Rattle.units.proofs.Forms.{size-found}
 use Rattle.units.specs.declared.AsmReference.{AsmReference}
 use Rattle.units.specs.declared.SizeFor.the-variants.{Bytes}
-use Rattle.records.specs.Record.{opsKind, dataKind}
+use Rattle.records.specs.Record.{opsKind, dataKind, directKind}
 use Rattle.records.specs.Store.{Store, storeOf, wordsPerSection, wordsAt, sectionWords}
 use Rattle.records.specs.Damage.{isSpan, endBefore}
 use Rattle.records.specs.Sections.{Section, mark, ops, bytes, reference, decodeAt, decodeFrom, decode}
@@ -24,12 +25,14 @@ use Rattle.undamaged.specs.View.{Undamaged, Facts}
 use Rattle.undamaged.proofs.Soundness.{undamaged-iff}
 use Rattle.undamaged.proofs.Sections.{decode-snoc, span-stored}
 use Rattle.layout.specs.Passes.{valueBy}
-use Rattle.layout.specs.Conditions.{sectionAt, sumOf, storedIn, shortAt, backwardAt}
+use Rattle.layout.specs.Conditions.{sectionAt, Never, sumOf, storedIn, shortAt, deltaAt, backwardAt, firstBackward}
+use Rattle.layout.proofs.Least.{never-law}
 use Rattle.layout.proofs.Moves.{widthBy}
 use Rattle.layout.proofs.Apart.{leastBefore}
+use Rattle.layout.proofs.Premises.{never-backward}
 use Rattle.layout.proofs.WidthRule.{widthRule, size-five}
 use Rattle.settling.specs.SectionWalk.{sectionsOf, Whole, Fitting, shortWords, MarksIn, backwardWords}
-use Rattle.settling.proofs.SectionWords.{Words, mark-words, ops-words, data-words, direct-words, delta-words, words-read, sizeSection, short-words, backward-words, marks-in}
+use Rattle.settling.proofs.SectionWords.{Words, mark-words, ops-words, data-words, direct-words, delta-words, words-read, sizeSection, short-words, backward-words, delta-kind, marks-in}
 
 -- ---- the list
 
@@ -180,6 +183,16 @@ short-test n ss i x t = short-words n (t .words)
 pub backward-test : (table : List ℕ) (ss : List Section) (i : ℕ) (x : StoredSection) → Turn ss i x → backwardWords table x ≡ backwardAt table ss i
 unfolding backwardAt
 backward-test table ss i x t = backward-words table (t .words)
+
+-- and of a delta
+pub delta-test : (ss : List Section) (i : ℕ) (x : StoredSection) → Turn ss i x → ltb directKind (x .kind) ≡ deltaAt ss i
+unfolding deltaAt
+delta-test ss i x t = delta-kind (t .words)
+
+-- without a delta there is no 12
+pub none-backward : (table : List ℕ) (ss : List Section) → Never ss (deltaAt ss) → length ss ≡ firstBackward table ss
+unfolding firstBackward
+none-backward table ss h = sym (never-law ss (backwardAt table ss) .1 (never-backward table ss h))
 
 module _ (store : Assembler) (held words : List ℕ) (u : Whole store held words) where
   abbrev facts : Facts wordsPerSection (storeOf store held words)

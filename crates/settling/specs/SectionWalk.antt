@@ -2,7 +2,7 @@
 -- and the passes' reply. proofs/ has that each is what layout/specs says of the decoded sections. Assumes nothing.
 use Prim.Native.Nat.{ℕ, _+_, _-_, _≤_, _<_}
 use mathlib.Core.Path.{_≡_}
-use mathlib.Core.Bool.{Bool, cond, not, _&&_, _||_}
+use mathlib.Core.Bool.{Bool, false, cond, not, _&&_, _||_}
 use mathlib.Core.List.{List, [], _∷_}
 use lib.Dec.{leb, ltb, eqb}
 use lib.ListN.{length, set, replicate}
@@ -17,10 +17,11 @@ use Rattle.records.specs.Sections.{Section, mark, ops, bytes, reference, decode
 use Rattle.records.specs.declared.Assembler.{Assembler}
 use Rattle.records.specs.declared.record.StoredSection.{StoredSection}
 use Rattle.undamaged.specs.View.{Undamaged}
-use Rattle.layout.specs.Passes.{entry, Settling, settled, narrowAt, unsettled, settle}
-use Rattle.layout.specs.Conditions.{Never, someBelow, shortAt}
+use Rattle.layout.specs.Passes.{entry, start, Settling, settled, narrowAt, unsettled, settle}
+use Rattle.layout.specs.Conditions.{Never, someBelow, shortAt, deltaAt, firstApart}
 use Rattle.layout.specs.Answer.{Answer, settlingAnswer}
 use Rattle.settling.specs.declared.Settled.{Settled}
+use Rattle.settling.specs.declared.table.Placings.{Placings}
 use Rattle.settling.specs.declared.Settled.the-variants.{LaidOut, Refused}
 
 -- ---- the store
@@ -98,6 +99,14 @@ allPlaced table = not (someBelow (length table) (λ m. eqb (entry table m) 0))
 unfoldable pub lessOne : List ℕ → List ℕ
 lessOne [] = []
 lessOne (x ∷ xs) = (x - 1) ∷ lessOne xs
+
+-- what the walk of the placings leaves where no section is short, by a table of length n
+pub record Placed (n : ℕ) (ss : List Section) (found : Placings) (table : List ℕ) : Type 0 where
+  pub apart : found .apart ≡ firstApart ss
+  pub sums : table ≡ firstSums n ss
+  pub started : length ss ≤ found .apart → lessOne table ≡ start n ss
+  -- no delta met: 'every reference be direct'
+  pub direct : found .«has_delta» ≡ false → Never ss (deltaAt ss)
 
 -- ---- the passes
 

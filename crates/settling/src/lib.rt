@@ -7,7 +7,6 @@ mod table;
 
 use crate::passes::run_passes;
 use crate::search::first_backward;
-use crate::search::first_short;
 use crate::search::first_unplaced;
 use crate::table::less_one;
 use crate::table::place;
@@ -19,11 +18,14 @@ use units::Refusal;
 ghost use mathlib.Core.Path.{_≡_};
 ghost use lib.ListN.{length, replicate};
 ghost use Rattle.records.specs.Store.{storeOf, wordsPerSection};
+ghost use mathlib.Core.Bool.{false};
 ghost use Rattle.layout.specs.Passes.{start};
+ghost use Rattle.layout.specs.Conditions.{Never, deltaAt};
 ghost use Rattle.layout.specs.Answer.{answer, answerReply, answerTable};
 ghost use Rattle.settling.specs.SectionWalk.{sectionsOf, Whole, Fitting, lessOne, settledAnswer};
 ghost use Rattle.settling.specs.Settle.{settling, settledReply};
 ghost use Rattle.settling.specs.TightSettling.{SettlesWithin, SettlesLeast};
+ghost use Rattle.settling.specs.declared.Settled.the-variants.{Refused};
 
 // Settled: the code's length in all and the passes made; or a refusal, 6 to 12, with the table all 0.
 pub enum Settled {
@@ -66,27 +68,34 @@ fn settle_whole(store: Assembler, bytes: &[u8], words: &[u32], table: &mut [u32]
         ≡ answerTable (length (now (table .entry)))
         (answer (length (now (table .entry))) (sectionsOf store (now (bytes .entry)) (now (words .entry)))) ⌝ }
 {
-    let short = first_short(store, bytes, words, table.len());
+    let found = place(store, bytes, words, table);
+    let short = found.short;
     if short < store.sections {
-        return Settled::Refused(Refusal::ShortTable { section: short });
+        return refuse(table, Refusal::ShortTable { section: short });
     }
-    let apart = place(store, bytes, words, table);
     let unplaced = first_unplaced(store, bytes, words, table);
     if unplaced < store.sections {
-        clear(table);
-        return Settled::Refused(Refusal::Unplaced { section: unplaced });
+        return refuse(table, Refusal::Unplaced { section: unplaced });
     }
+    let apart = found.apart;
     if apart < store.sections {
-        clear(table);
-        return Settled::Refused(Refusal::PlacedApart { section: apart });
+        return refuse(table, Refusal::PlacedApart { section: apart });
     }
-    settle_placed(store, bytes, words, table)
+    settle_placed(store, bytes, words, table, found.has_delta)
 }
 
 // The start table, the passes and 12, where 7 to 9 are not the answer.
-fn settle_placed(store: Assembler, bytes: &[u8], words: &[u32], table: &mut [u32]) -> Settled
+fn settle_placed(
+    store: Assembler,
+    bytes: &[u8],
+    words: &[u32],
+    table: &mut [u32],
+    has_delta: bool,
+) -> Settled
     requires { ⌜ Fitting store (now bytes) (now words) (length (now table)) ⌝ }
     requires { ⌜ lessOne (now table) ≡ start (length (now table)) (sectionsOf store (now bytes) (now words)) ⌝ }
+    requires { ⌜ («has_delta» ≡ false
+        → Never (sectionsOf store (now bytes) (now words)) (deltaAt (sectionsOf store (now bytes) (now words)))) ⌝ }
     ensures reply { λ r.
         ⌜ settledReply r
         ≡ answerReply (settledAnswer (length (now (table .entry))) (sectionsOf store (now (bytes .entry)) (now (words .entry)))) ⌝ }
@@ -100,13 +109,22 @@ fn settle_placed(store: Assembler, bytes: &[u8], words: &[u32], table: &mut [u32
     let Settled::LaidOut { length: _, passes } = reply else {
         return reply;
     };
-    let backward = first_backward(store, bytes, words, table);
+    let backward = first_backward(store, bytes, words, table, has_delta);
     if backward < store.sections {
-        clear(table);
-        return Settled::Refused(Refusal::Backward {
+        let refusal = Refusal::Backward {
             section: backward,
             passes,
-        });
+        };
+        return refuse(table, refusal);
     }
     reply
+}
+
+// A refusal after the tests of 6: the table, which may hold placings or offsets, is all 0 again.
+pub(crate) fn refuse(table: &mut [u32], refusal: Refusal) -> Settled
+    ensures reply { λ r. ⌜ r ≡ Refused refusal ⌝ }
+    ensures table { λ _. ⌜ now (table .exit) ≡ replicate (length (now (table .entry))) 0 ⌝ }
+{
+    clear(table);
+    Settled::Refused(refusal)
 }

@@ -1,37 +1,26 @@
-// The searches for 7, 8 and 12: each is the first section with a property, the count of sections if there is none.
+// The test for 7, and the searches for 8 and 12: each the first section with a property, the count of sections if there is none.
+use crate::section::entry_of;
 use crate::section::section_words;
 use records::Assembler;
 use records::StoredSection;
 use records::kind;
+use units::MarkId;
 ghost use mathlib.Core.Path.{_≡_};
 ghost use lib.ListN.{length};
-ghost use Rattle.layout.specs.Conditions.{firstShort, firstUnplaced, firstBackward};
-ghost use Rattle.settling.specs.SectionWalk.{sectionsOf, Whole, Fitting, shortWords, MarksIn, unplacedWords, backwardWords};
+ghost use mathlib.Core.Bool.{false};
+ghost use Rattle.layout.specs.Conditions.{Never, deltaAt, firstUnplaced, firstBackward};
+ghost use Rattle.settling.specs.SectionWalk.{sectionsOf, Fitting, shortWords, MarksIn, unplacedWords, backwardWords};
 ghost use Rattle.settling.specs.SectionWalk.{firstSums, allPlaced};
 
-// 7, for one section. Without branches on the kind: a branch predictor can't guess the kinds of a mixed store.
-fn is_short(section: StoredSection, limit: usize) -> bool
+// 7, for one section. Without branches on the kind: a branch predictor can't guess the kinds of a mixed store. So the words are compared
+// as numbers, whether they are marks or not.
+pub(crate) fn is_short(section: StoredSection, limit: usize) -> bool
     ensures { λ r. ⌜ r ≡ shortWords limit section ⌝ }
 {
     let kind = section.kind;
     let first = limit <= (section.first as usize);
     let second = limit <= (section.second as usize);
     (first & ((kind == kind::MARK) | (kind::DATA < kind))) | (second & (kind::DIRECT < kind))
-}
-
-// The first section with a mark at or past the table's length.
-pub(crate) fn first_short(store: Assembler, bytes: &[u8], words: &[u32], limit: usize) -> u32
-    requires { ⌜ Whole store (now bytes) (now words) ⌝ }
-    ensures { λ r. ⌜ r ≡ firstShort limit (sectionsOf store (now (bytes .entry)) (now (words .entry))) ⌝ }
-{
-    let mut i: u32 = 0;
-    while i < store.sections {
-        if is_short(section_words(words, i as usize), limit) {
-            return i;
-        }
-        i += 1;
-    }
-    i
 }
 
 // 8, for one section, by the table of first placings.
@@ -42,13 +31,13 @@ fn is_unplaced(section: StoredSection, table: &[u32]) -> bool
     if section.kind < kind::DIRECT {
         return false;
     }
-    if table[section.first as usize] == 0 {
+    if entry_of(table, MarkId(section.first)) == 0 {
         return true;
     }
     if section.kind == kind::DIRECT {
         return false;
     }
-    table[section.second as usize] == 0
+    entry_of(table, MarkId(section.second)) == 0
 }
 
 // Every mark that the table has room for is placed.
@@ -92,14 +81,25 @@ fn is_backward(section: StoredSection, table: &[u32]) -> bool
     if section.kind <= kind::DIRECT {
         return false;
     }
-    table[section.second as usize] < table[section.first as usize]
+    entry_of(table, MarkId(section.second)) < entry_of(table, MarkId(section.first))
 }
 
-// The first delta whose end is below its start.
-pub(crate) fn first_backward(store: Assembler, bytes: &[u8], words: &[u32], table: &[u32]) -> u32
+// The first delta whose end is below its start. Where there is no delta, the sections need no walk.
+pub(crate) fn first_backward(
+    store: Assembler,
+    bytes: &[u8],
+    words: &[u32],
+    table: &[u32],
+    has_delta: bool,
+) -> u32
     requires { ⌜ Fitting store (now bytes) (now words) (length (now table)) ⌝ }
+    requires { ⌜ («has_delta» ≡ false
+        → Never (sectionsOf store (now bytes) (now words)) (deltaAt (sectionsOf store (now bytes) (now words)))) ⌝ }
     ensures { λ r. ⌜ r ≡ firstBackward (now (table .entry)) (sectionsOf store (now (bytes .entry)) (now (words .entry))) ⌝ }
 {
+    if !has_delta {
+        return store.sections;
+    }
     let mut i: u32 = 0;
     while i < store.sections {
         if is_backward(section_words(words, i as usize), table) {

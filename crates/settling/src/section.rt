@@ -4,13 +4,16 @@ use records::Assembler;
 use records::StoredSection;
 use records::form_of;
 use records::kind;
+use units::AsmBytesIdx;
+use units::MarkId;
 use units::SizeFor;
 use units::form;
 ghost use mathlib.Core.Path.{_≡_};
-ghost use Prim.Native.Nat.{_+_, _*_, _≤_, _<_};
+ghost use Prim.Native.Nat.{_+_, _-_, _*_, _≤_, _<_};
 ghost use lib.ListN.{length};
 ghost use Rattle.records.specs.Record.{directKind};
 ghost use Rattle.records.specs.Store.{wordsPerSection, wordsAt};
+ghost use Rattle.layout.specs.Passes.{entry};
 ghost use Rattle.settling.specs.SectionWalk.{MarksIn, valueWords, leastWords, sizeWords};
 
 // The three words of section i. Private, and so without a test of the index, which every turn of every walk would pay for.
@@ -26,20 +29,39 @@ pub(crate) fn section_words(words: &[u32], i: usize) -> StoredSection
     }
 }
 
+// A mark's entry of the table.
+pub(crate) fn entry_of(table: &[u32], mark: MarkId) -> u32
+    requires { ⌜ «mark» .0 < length (now table) ⌝ }
+    ensures { λ r. ⌜ r ≡ entry (now (table .entry)) («mark» .0) ⌝ }
+{
+    let at = mark.0 as usize;
+    table[at]
+}
+
+// The length of an Ops or Data section.
+fn span_length(section: StoredSection) -> u32
+    requires { ⌜ section .first ≤ section .second ⌝ }
+    ensures { λ r. ⌜ r ≡ section .second - section .first ⌝ }
+{
+    let start = AsmBytesIdx(section.first);
+    let end = AsmBytesIdx(section.second);
+    end.0 - start.0
+}
+
 // A reference's value by the table as it is; an end below its start reads 0.
 fn value_of(section: StoredSection, table: &[u32]) -> u32
     requires { ⌜ MarksIn (length (now table)) section × (directKind ≤ section .kind) ⌝ }
     ensures { λ r. ⌜ r ≡ valueWords (now (table .entry)) section ⌝ }
 {
-    let first = table[section.first as usize];
+    let start = entry_of(table, MarkId(section.first));
     if section.kind == kind::DIRECT {
-        return first;
+        return start;
     }
-    let end = table[section.second as usize];
-    if end < first {
+    let end = entry_of(table, MarkId(section.second));
+    if end < start {
         return 0;
     }
-    end - first
+    end - start
 }
 
 // The least size of a section that isn't a mark.
@@ -48,7 +70,7 @@ pub(crate) fn least_size(section: StoredSection) -> u32
     ensures { λ r. ⌜ r ≡ leastWords section ⌝ }
 {
     if section.kind < kind::DIRECT {
-        return section.second - section.first;
+        return span_length(section);
     }
     form::least_size(form_of(section))
 }
@@ -59,7 +81,7 @@ pub(crate) fn size_of(section: StoredSection, table: &[u32]) -> SizeFor
     ensures { λ r. ⌜ r ≡ sizeWords (now (table .entry)) section ⌝ }
 {
     if section.kind < kind::DIRECT {
-        return SizeFor::Bytes(section.second - section.first);
+        return SizeFor::Bytes(span_length(section));
     }
     form::size_for(form_of(section), value_of(section, table))
 }

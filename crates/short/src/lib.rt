@@ -16,6 +16,7 @@ use write::write_number;
 ghost use mathlib.Core.Path.{_≡_};
 ghost use mathlib.Core.List.{[], _∷_};
 ghost use Prim.Native.Nat.{_<_};
+ghost use lib.ListN.{length};
 ghost use Rattle.records.specs.Sections.{ops};
 ghost use Rattle.calls.specs.Calls.{minimalPush};
 ghost use Rattle.calls.specs.Alone.{storedSection};
@@ -24,6 +25,9 @@ ghost use Rattle.short.specs.Tried.{TriedSection, TriedWords, dataSectio
 
 // The minimal push of a 64-bit number has at most so many bytes.
 const LONGEST_PUSH: usize = 9;
+
+// Data is most often a constant of one EVM word.
+const DATA_WORD: usize = 32;
 
 // An op byte that extends a last Ops section.
 pub fn extend_op(state: u64, bytes: &mut [u8], words: &mut [u32], op: u8) -> u64
@@ -63,6 +67,11 @@ pub fn extend_data(state: u64, bytes: &mut [u8], words: &mut [u32], added: &[u8]
     ensures { λ r. ⌜ TriedSection (dataSection (now (added .entry))) (storeIn state (now (bytes .entry)) (now (words .entry))) r
         (now (bytes .exit)) (now (words .exit)) ⌝ }
 {
+    if added.len() == DATA_WORD {
+        let mut word = [0; DATA_WORD];
+        slices::write_bytes(&mut word, 0, added);
+        return extend_bytes(state, bytes, words, kind::DATA, &word);
+    }
     extend_bytes(state, bytes, words, kind::DATA, added)
 }
 

@@ -11,32 +11,34 @@ ghost use Rattle.records.specs.Store.{wordsPerSection};
 ghost use Rattle.numbers.specs.Numbers.{storeIn};
 ghost use Rattle.short.specs.Tests.{Takes, Extends, Begins};
 
-// One section more is taken, after a last one.
+// One section more is taken, after a last one. A store whose bytes are full is left to be judged: both limits are then one test of the
+// state's bits. The order of the tests is the one that compiles to the fewest jumps.
 pub(crate) fn takes_section(state: u64, bytes: &[u8], words: &[u32]) -> bool
     ensures { λ r. ⌜ (r ≡ true → Takes wordsPerSection (storeIn state (now (bytes .entry)) (now (words .entry)))) ⌝ }
 {
     let stored = (state % SECTION) as u32;
     let sections = (state / SECTION) as u32;
-    if Assembler::MAX_SECTIONS <= sections {
-        return false;
-    }
+    let next = sections as usize;
     if sections == 0 {
         return false;
     }
-    if Assembler::MAX_BYTES < stored {
+    if words.len() < Assembler::WORDS * next + Assembler::WORDS {
+        return false;
+    }
+    if Assembler::MAX_SECTIONS <= sections {
+        return false;
+    }
+    if Assembler::MAX_BYTES <= stored {
         return false;
     }
     if bytes.len() < (stored as usize) {
         return false;
     }
-    let next = sections as usize;
-    if words.len() < Assembler::WORDS * next + Assembler::WORDS {
-        return false;
-    }
     is_whole(words, next - 1, stored)
 }
 
-// So many bytes more are taken, and extend a last section of this kind.
+// So many bytes more are taken, and extend a last section of this kind. That there is a section is asked of the state's number itself,
+// so that the compiler knows that the next state isn't 0.
 pub(crate) fn extends(state: u64, bytes: &[u8], words: &[u32], kind: u32, added: usize) -> bool
     requires { ⌜ added < 2 ^ 63 ⌝ }
     ensures { λ r. ⌜ (r ≡ true → Extends wordsPerSection kind added (storeIn state (now (bytes .entry)) (now (words .entry)))) ⌝ }
@@ -49,13 +51,13 @@ pub(crate) fn extends(state: u64, bytes: &[u8], words: &[u32], kind: u32, added:
     if (Assembler::MAX_BYTES as usize) < stored + added {
         return false;
     }
-    if (Assembler::MAX_SECTIONS as usize) < sections {
-        return false;
-    }
-    if sections == 0 {
+    if state < SECTION {
         return false;
     }
     if words.len() < Assembler::WORDS * sections {
+        return false;
+    }
+    if (Assembler::MAX_SECTIONS as usize) < sections {
         return false;
     }
     is_kind_to(words, sections - 1, kind, stored as u32)

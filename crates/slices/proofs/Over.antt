@@ -4,9 +4,9 @@ use native.Mathlib.Omega.{arith}
 use native.Mathlib.Nat.{add-zero, add-sub-of-le}
 use native.Mathlib.Numerals.{add-one}
 use mathlib.Core.Path.{_≡_, sym, ap, ap₂, _∙_, subst}
-use mathlib.Core.List.{List, [], _∷_, _++_, append-assoc}
+use mathlib.Core.List.{List, [], _∷_, _++_, append-assoc, append-nil}
 use lib.ListN.{length, getD, take, drop, set, length-append, length-drop, take-append-drop, List·getD-append}
-use lib.Seq.{paste, take-length, slice, length-take-le, take-at, drop-at, drop-drop, drop-append-le, getD-append-add, set-split, take-set-le}
+use lib.Seq.{paste, take-length, drop-length, slice, length-take-le, take-at, drop-at, drop-drop, drop-append-le, getD-append-add, set-split, take-set-le}
 use borrow.Author.Tests.{le-leb, lt-leb}
 use Rattle.slices.specs.Over.{over, overIfRoom}
 
@@ -66,6 +66,14 @@ no-room old i new h = rw (lt-leb (i + length new) (length old) h)
 -- nothing written
 pub over-nothing : (old : List ℕ) (i : ℕ) → over old i [] ≡ old
 over-nothing old i = ap (λ (k : ℕ). take i old ++ drop k old) (add-zero i) ∙ take-append-drop i old
+
+-- as much as there is: the whole of it
+pub over-whole : (old new : List ℕ) → length new ≡ length old → over old 0 new ≡ new
+over-whole old new e =
+    let all : 0 + length new ≡ length old = omega (arith, e) in
+    ap (λ (k : ℕ). new ++ drop k old) all
+    ∙ ap (λ (r : List ℕ). new ++ r) (drop-length old)
+    ∙ append-nil new
 
 -- a part after a part is both at once
 pub over-next : (old : List ℕ) (i : ℕ) (xs ys : List ℕ) → i + length xs ≤ length old → over (over old i xs) (i + length xs) ys ≡ over old i (xs ++ ys)

@@ -1,8 +1,9 @@
 // A reference's form as one number, set size (0 unsized) plus 8 if pushed, and the width rule by it: for walks over stored words, which
 // have the form and make no reference of it. Any number is answered.
 use crate::SizeFor;
-use crate::bytes_to_hold;
 ghost use mathlib.Core.Path.{_≡_};
+ghost use Prim.Native.Nat.{_≤_};
+ghost use Rattle.units.specs.Numbers.{heldBytes};
 ghost use Rattle.units.specs.Form.{leastByForm, countByForm, pushZeroByForm, sizeByForm};
 
 // The greatest set size: the forms of raw references are 0 to 4.
@@ -25,13 +26,24 @@ pub fn least_size(form: u32) -> u32
     size + form / PUSHED
 }
 
+// The bytes that hold a value, as a number. By sums and not by `bytes_to_hold`: a processor guesses a branch on the value wrong where
+// offsets lie on both sides of a boundary (docs/PERFORMANCE.md: assembly takes up to half as long again).
+fn held_bytes(value: u32) -> u32
+    ensures { λ r. ⌜ (r ≡ heldBytes value) × (r ≤ 4) ⌝ }
+{
+    let above_one = (0xff < value) as u32;
+    let above_two = (0xffff < value) as u32;
+    let above_three = (0xffffff < value) as u32;
+    1 + above_one + above_two + above_three
+}
+
 // The bytes that a value is written in.
 pub fn byte_count(form: u32, value: u32) -> u32
     ensures { λ r. ⌜ r ≡ countByForm form value ⌝ }
 {
     let size = form % PUSHED;
     if size == 0 {
-        return bytes_to_hold(value).bytes();
+        return held_bytes(value);
     }
     size
 }
@@ -50,7 +62,7 @@ pub fn is_push_zero(form: u32, value: u32) -> bool
 pub fn size_for(form: u32, value: u32) -> SizeFor
     ensures { λ r. ⌜ r ≡ sizeByForm form value ⌝ }
 {
-    let held = bytes_to_hold(value).bytes();
+    let held = held_bytes(value);
     let size = form % PUSHED;
     if size == 0 {
         if value == 0 {

@@ -7,9 +7,6 @@ use Rattle.opcodes.proofs.Naming.{named, past, unnamed}
 use Rattle.opcodes.proofs.arithmetic.Statement.{statement}
 use Rattle.opcodes.proofs.arithmetic.Tie as tie
 
-unknown-name-requires : tie.Need-unknown-name-requires
-unknown-name-requires c κs = tt
-
 returns : tie.Need-returns
 unfolding padded opName opNames lookup asBytes
 returns c = named _ 0 _ (c .match .keys1) refl
@@ -59,8 +56,8 @@ unfolding padded opName opNames lookup asBytes
 returns-12 c = named _ 11 _ (c .match .keys12) refl
 
 returns-13 : tie.Need-returns-13
-unfolding opNames lookup
-returns-13 c = unnamed _ 12 4 _ refl (past _ 0 12 (c .before .before .pre .0) (c .before .match .rest)) (c .before .before .pre .1) (c .unknown-name .ensures)
+unfolding padded opNames lookup asBytes
+returns-13 c = unnamed _ 12 4 _ refl (past _ 0 12 (c .before .pre .0) (c .match .rest)) (c .before .pre .1) refl
 
 pub arithmetic-spec : {M : Type 1} → statement M
-arithmetic-spec = tie.close (tie.spec unknown-name-requires returns returns-2 returns-3 returns-4 returns-5 returns-6 returns-7 returns-8 returns-9 returns-10 returns-11 returns-12 returns-13)
+arithmetic-spec = tie.close (tie.spec returns returns-2 returns-3 returns-4 returns-5 returns-6 returns-7 returns-8 returns-9 returns-10 returns-11 returns-12 returns-13)

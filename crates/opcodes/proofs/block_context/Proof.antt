@@ -7,9 +7,6 @@ use Rattle.opcodes.proofs.Naming.{named, past, unnamed}
 use Rattle.opcodes.proofs.block_context.Statement.{statement}
 use Rattle.opcodes.proofs.block_context.Tie as tie
 
-unknown-name-requires : tie.Need-unknown-name-requires
-unknown-name-requires c κs = tt
-
 returns : tie.Need-returns
 unfolding padded opName opNames lookup asBytes
 returns c = named _ 64 _ (c .match .keys1) refl
@@ -55,8 +52,8 @@ unfolding padded opName opNames lookup asBytes
 returns-11 c = named _ 74 _ (c .match .keys11) refl
 
 returns-12 : tie.Need-returns-12
-unfolding opNames lookup
-returns-12 c = unnamed _ 75 5 _ refl (past _ 64 11 (c .before .before .pre .0) (c .before .match .rest)) (c .before .before .pre .1) (c .unknown-name .ensures)
+unfolding padded opNames lookup asBytes
+returns-12 c = unnamed _ 75 5 _ refl (past _ 64 11 (c .before .pre .0) (c .match .rest)) (c .before .pre .1) refl
 
 pub block-context-spec : {M : Type 1} → statement M
-block-context-spec = tie.close (tie.spec unknown-name-requires returns returns-2 returns-3 returns-4 returns-5 returns-6 returns-7 returns-8 returns-9 returns-10 returns-11 returns-12)
+block-context-spec = tie.close (tie.spec returns returns-2 returns-3 returns-4 returns-5 returns-6 returns-7 returns-8 returns-9 returns-10 returns-11 returns-12)

@@ -7,9 +7,6 @@ use Rattle.opcodes.proofs.Naming.{named, past, unnamed}
 use Rattle.opcodes.proofs.creation.Statement.{statement}
 use Rattle.opcodes.proofs.creation.Tie as tie
 
-unknown-name-requires : tie.Need-unknown-name-requires
-unknown-name-requires c κs = tt
-
 returns : tie.Need-returns
 unfolding padded opName opNames lookup asBytes
 returns c = named _ 240 _ (c .match .keys1) refl
@@ -35,8 +32,8 @@ unfolding padded opName opNames lookup asBytes
 returns-6 c = named _ 245 _ (c .match .keys6) refl
 
 returns-7 : tie.Need-returns-7
-unfolding opNames lookup
-returns-7 c = unnamed _ 246 4 _ refl (past _ 240 6 (c .before .before .pre .0) (c .before .match .rest)) (c .before .before .pre .1) (c .unknown-name .ensures)
+unfolding padded opNames lookup asBytes
+returns-7 c = unnamed _ 246 4 _ refl (past _ 240 6 (c .before .pre .0) (c .match .rest)) (c .before .pre .1) refl
 
 pub creation-spec : {M : Type 1} → statement M
-creation-spec = tie.close (tie.spec unknown-name-requires returns returns-2 returns-3 returns-4 returns-5 returns-6 returns-7)
+creation-spec = tie.close (tie.spec returns returns-2 returns-3 returns-4 returns-5 returns-6 returns-7)

@@ -8,9 +8,6 @@ use Rattle.opcodes.proofs.Naming.{named, unnamed}
 use Rattle.opcodes.proofs.ending.Statement.{statement}
 use Rattle.opcodes.proofs.ending.Tie as tie
 
-unknown-name-requires : tie.Need-unknown-name-requires
-unknown-name-requires c κs = tt
-
 returns : tie.Need-returns
 unfolding padded opName opNames lookup asBytes
 returns c = named _ 250 _ (c .match .keys1) refl
@@ -28,8 +25,8 @@ unfolding padded opName opNames lookup asBytes
 returns-4 c = named _ 255 _ (c .match .keys4) refl
 
 returns-5 : tie.Need-returns-5
-unfolding opNames lookup
-returns-5 c = unnamed _ 251 2 _ refl (omega arith) (omega arith) (c .unknown-name .ensures)
+unfolding padded opNames lookup asBytes
+returns-5 c = unnamed _ 251 2 _ refl (omega arith) (omega arith) refl
 
 pub ending-spec : {M : Type 1} → statement M
-ending-spec = tie.close (tie.spec unknown-name-requires returns returns-2 returns-3 returns-4 returns-5)
+ending-spec = tie.close (tie.spec returns returns-2 returns-3 returns-4 returns-5)

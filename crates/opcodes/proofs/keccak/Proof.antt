@@ -7,16 +7,13 @@ use Rattle.opcodes.proofs.Naming.{named, past, unnamed}
 use Rattle.opcodes.proofs.keccak.Statement.{statement}
 use Rattle.opcodes.proofs.keccak.Tie as tie
 
-unknown-name-requires : tie.Need-unknown-name-requires
-unknown-name-requires c κs = tt
-
 returns : tie.Need-returns
 unfolding padded opName opNames lookup asBytes
 returns c = named _ 32 _ (c .match .keys1) refl
 
 returns-2 : tie.Need-returns-2
-unfolding opNames lookup
-returns-2 c = unnamed _ 33 15 _ refl (past _ 32 1 (c .before .before .pre .0) (c .before .match .rest)) (c .before .before .pre .1) (c .unknown-name .ensures)
+unfolding padded opNames lookup asBytes
+returns-2 c = unnamed _ 33 15 _ refl (past _ 32 1 (c .before .pre .0) (c .match .rest)) (c .before .pre .1) refl
 
 pub keccak-spec : {M : Type 1} → statement M
-keccak-spec = tie.close (tie.spec unknown-name-requires returns returns-2)
+keccak-spec = tie.close (tie.spec returns returns-2)

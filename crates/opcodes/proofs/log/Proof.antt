@@ -7,9 +7,6 @@ use Rattle.opcodes.proofs.Naming.{named, past, unnamed}
 use Rattle.opcodes.proofs.log.Statement.{statement}
 use Rattle.opcodes.proofs.log.Tie as tie
 
-unknown-name-requires : tie.Need-unknown-name-requires
-unknown-name-requires c κs = tt
-
 returns : tie.Need-returns
 unfolding padded opName opNames lookup asBytes
 returns c = named _ 160 _ (c .match .keys1) refl
@@ -31,8 +28,8 @@ unfolding padded opName opNames lookup asBytes
 returns-5 c = named _ 164 _ (c .match .keys5) refl
 
 returns-6 : tie.Need-returns-6
-unfolding opNames lookup
-returns-6 c = unnamed _ 165 11 _ refl (past _ 160 5 (c .before .before .pre .0) (c .before .match .rest)) (c .before .before .pre .1) (c .unknown-name .ensures)
+unfolding padded opNames lookup asBytes
+returns-6 c = unnamed _ 165 11 _ refl (past _ 160 5 (c .before .pre .0) (c .match .rest)) (c .before .pre .1) refl
 
 pub log-spec : {M : Type 1} → statement M
-log-spec = tie.close (tie.spec unknown-name-requires returns returns-2 returns-3 returns-4 returns-5 returns-6)
+log-spec = tie.close (tie.spec returns returns-2 returns-3 returns-4 returns-5 returns-6)

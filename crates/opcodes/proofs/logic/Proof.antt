@@ -7,9 +7,6 @@ use Rattle.opcodes.proofs.Naming.{named, past, unnamed}
 use Rattle.opcodes.proofs.logic.Statement.{statement}
 use Rattle.opcodes.proofs.logic.Tie as tie
 
-unknown-name-requires : tie.Need-unknown-name-requires
-unknown-name-requires c κs = tt
-
 returns : tie.Need-returns
 unfolding padded opName opNames lookup asBytes
 returns c = named _ 16 _ (c .match .keys1) refl
@@ -71,8 +68,8 @@ unfolding padded opName opNames lookup asBytes
 returns-15 c = named _ 30 _ (c .match .keys15) refl
 
 returns-16 : tie.Need-returns-16
-unfolding opNames lookup
-returns-16 c = unnamed _ 31 1 _ refl (past _ 16 15 (c .before .before .pre .0) (c .before .match .rest)) (c .before .before .pre .1) (c .unknown-name .ensures)
+unfolding padded opNames lookup asBytes
+returns-16 c = unnamed _ 31 1 _ refl (past _ 16 15 (c .before .pre .0) (c .match .rest)) (c .before .pre .1) refl
 
 pub logic-spec : {M : Type 1} → statement M
-logic-spec = tie.close (tie.spec unknown-name-requires returns returns-2 returns-3 returns-4 returns-5 returns-6 returns-7 returns-8 returns-9 returns-10 returns-11 returns-12 returns-13 returns-14 returns-15 returns-16)
+logic-spec = tie.close (tie.spec returns returns-2 returns-3 returns-4 returns-5 returns-6 returns-7 returns-8 returns-9 returns-10 returns-11 returns-12 returns-13 returns-14 returns-15 returns-16)

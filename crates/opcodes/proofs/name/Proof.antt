@@ -2,7 +2,8 @@
 -- Assumes nothing.
 use mathlib.Core.Path.{refl}
 use native.Mathlib.Omega.{arith}
-use Rattle.opcodes.specs.Names.{lookup, opNames}
+use Rattle.opcodes.specs.Names.{lookup, opNames, padded}
+use Rattle.opcodes.specs.Text.{asBytes}
 use Rattle.opcodes.proofs.Naming.{unnamed}
 use borrow.Author.Needs.{needs}
 use Rattle.opcodes.proofs.name.Statement.{statement}
@@ -40,9 +41,6 @@ swap-requires c κs = search needs
 
 log-requires : tie.Need-log-requires
 log-requires c κs = search needs
-
-unknown-name-requires : tie.Need-unknown-name-requires
-unknown-name-requires c κs = search needs
 
 creation-requires : tie.Need-creation-requires
 creation-requires c κs = search needs
@@ -84,8 +82,8 @@ returns-11 : tie.Need-returns-11
 returns-11 c = search needs
 
 returns-12 : tie.Need-returns-12
-unfolding opNames lookup
-returns-12 c = unnamed _ 0xb0 0x40 _ refl (omega arith) (omega arith) (c .unknown-name .ensures)
+unfolding padded opNames lookup asBytes
+returns-12 c = unnamed _ 0xb0 0x40 _ refl (omega arith) (omega arith) refl
 
 returns-13 : tie.Need-returns-13
 returns-13 c = search needs
@@ -108,7 +106,6 @@ name-spec =
     dup-requires
     swap-requires
     log-requires
-    unknown-name-requires
     creation-requires
     ending-requires
     returns

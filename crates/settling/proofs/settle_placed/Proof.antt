@@ -11,6 +11,7 @@ use Rattle.records.specs.Store.{storeOf, wordsPerSection}
 use Rattle.records.specs.Sections.{Section}
 use Rattle.layout.specs.Passes.{Settling, settle}
 use Rattle.settling.specs.SectionWalk.{sectionsOf, Fitting, passesReply, passesTable}
+use Rattle.settling.specs.Settle.{settledReply}
 use Rattle.settling.proofs.Sections.{decode-count}
 use Rattle.settling.proofs.SettleAnswers.{settle-is, placed-refused, placed-backward, placed-done}
 use Rattle.settling.proofs.settle_placed.Statement.{statement}
@@ -44,7 +45,7 @@ started c = c .before .before .before .before
 passed : (c : tie.After-run-passes) → (c .run-passes .result ≡ passesReply (comes-to (started c))) × (c .run-passes .last .1 .1 .1 .0 ≡ passesTable (long (started c)) (comes-to (started c)))
 passed c =
     let s = started c in
-    let is = settle-is (long s) (sections s) _ (s .less-one .ensures ∙ entry s .pre .1) in
+    let is = settle-is (long s) (sections s) _ (s .less-one .ensures ∙ entry s .pre .1 .0) in
     (c .run-passes .ensures .0 ∙ ap passesReply is, c .run-passes .ensures .1 ∙ ap₂ passesTable (s .less-one .kept .0) is)
 
 kept : (c : tie.After-run-passes) → length (c .run-passes .last .1 .1 .1 .0) ≡ long (started c)
@@ -84,23 +85,24 @@ returns c =
 first-backward-requires : tie.Need-first-backward-requires
 first-backward-requires c κs =
     let r = run (c .before .before) in
-    subst (Fitting _ _ _) (sym (kept r)) (entry (started r) .pre .0)
+    (subst (Fitting _ _ _) (sym (kept r)) (entry (started r) .pre .0), entry (started r) .pre .1 .1)
 
-clear-requires : tie.Need-clear-requires
-clear-requires c κs = search needs
+refuse-requires : tie.Need-refuse-requires
+refuse-requires c κs = search needs
 
 same-length-2 : tie.Need-same-length-2
 same-length-2 c = search needs
 
 returns-2 : tie.Need-returns-2
 returns-2 c =
-    let clearing = c .before .before in
-    let at-if1 = clearing .before .before in
+    let refusing = c .before .before in
+    let at-if1 = refusing .before .before in
     let search-for = at-if1 .before .before in
     let r = run (laid search-for) in
     let less : search-for .first-backward .result < length (sections (started r)) = omega (arith, count (started r), at-if1 .if1 .taken) in
-    placed-backward _ _ _ _ (comes-to (started r)) _ _ _ _ (passed r .0) (passed r .1) (laid search-for .reply .given .1) (search-for .first-backward .ensures) less
-    (clearing .clear .ensures ∙ ap (λ (n : ℕ). replicate n 0) (kept r))
+    let answers = placed-backward _ _ _ _ (comes-to (started r)) _ _ _ _ (passed r .0) (passed r .1) (laid search-for .reply .given .1) (search-for .first-backward .ensures) less
+    (refusing .refuse .ensures .1 ∙ ap (λ (n : ℕ). replicate n 0) (kept r)) in
+    (ap settledReply (refusing .refuse .ensures .0) ∙ answers .0, answers .1)
 
 same-length-3 : tie.Need-same-length-3
 same-length-3 c = search needs
@@ -123,7 +125,7 @@ settle-placed-spec =
     same-length
     returns
     first-backward-requires
-    clear-requires
+    refuse-requires
     same-length-2
     returns-2
     same-length-3

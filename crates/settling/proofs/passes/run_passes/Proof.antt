@@ -3,9 +3,10 @@
 use Prim.Native.Nat.{ℕ, _+_, _-_, _≤_, _<_}
 use native.Mathlib.Omega.{arith}
 use mathlib.Core.Path.{_≡_, refl, sym, ap, _∙_, subst}
+use mathlib.Core.Bool.{Bool, _||_}
 use mathlib.Core.List.{List}
 use mathlib.Core.Logic.{⊎-elim}
-use lib.ListN.{length, drop, replicate, length-set, length-replicate}
+use lib.ListN.{length, drop, replicate, length-set}
 use borrow.Author.Needs.{needs}
 use borrow.Author.Tests.{not-true, not-false}
 use denote.Ref.{now}
@@ -94,24 +95,10 @@ section-words-requires c κs =
     let turning = c .before .before in
     words-fit _ _ _ (entry (outer turning) .pre .whole) (turning .loop .i) (c .if1 .taken)
 
-cast-at : tie.Need-cast-at Inv-loop μ-loop Inv-passes μ-passes
-cast-at c = search needs
-
-mul-was : tie.Need-mul-was Inv-loop μ-loop Inv-passes μ-passes
-mul-was c = search needs
-
--- the mark's entry is in the table
-entry-in : (c : tie.Then2 Inv-loop μ-loop Inv-passes μ-passes) → c .before .before .section-words .result .first < length (at-loop (c .before .before) .loop .table)
-entry-in c = marks-here (c .before .before) .placed (c .if2 .taken)
-
-slice-read-was : tie.Need-slice-read-was Inv-loop μ-loop Inv-passes μ-passes
-slice-read-was c = entry-in (c .before .before)
-
-mul-table : tie.Need-mul-table Inv-loop μ-loop Inv-passes μ-passes
-mul-table c = search needs
-
-slice-write-table : tie.Need-slice-write-table Inv-loop μ-loop Inv-passes μ-passes
-slice-write-table c = entry-in (c .before .before)
+move-mark-requires : tie.Need-move-mark-requires Inv-loop μ-loop Inv-passes μ-passes
+move-mark-requires c κs =
+    let at-if2 = c .before in
+    marks-here (at-if2 .before .before) .placed (at-if2 .if2 .taken)
 
 size-of-requires : tie.Need-size-of-requires Inv-loop μ-loop Inv-passes μ-passes
 size-of-requires c κs =
@@ -154,12 +141,13 @@ loop-again c =
     let t = here read in
     ⊎-elim
     (λ w.
-    let step = pass-at ss i (t .below) sum moved table _ (as-mark (t .words) (w .0 .taken)) in (
+    let step = pass-at ss i (t .below) sum moved table _ (as-mark (t .words) (w .0 .taken)) in
+    let set-to = w .5 ∙ w .2 .ensures .1 in (
       omega arith,
-      omega (arith, w .4, room-mark ss i sum (t .below) (inv .1)),
-      ap length (w .3) ∙ length-set table _ _ ∙ inv .2,
+      omega (arith, w .6, room-mark ss i sum (t .below) (inv .1)),
+      ap length set-to ∙ length-set table _ _ ∙ inv .2,
       inv .3,
-      pass-next ss i sum moved table _ _ _ _ (inv .4) step (w .4) (w .5) (w .3),
+      pass-next ss i sum moved table _ _ _ _ (inv .4) step (w .6) (w .7 ∙ ap (λ (b : Bool). moved || b) (w .2 .ensures .0)) set-to,
     ))
     (λ w.
     let size = sym (size-words table (t .words) (w .0 .left)) ∙ sym (w .2 .ensures) ∙ w .4 .given .1 in
@@ -198,8 +186,8 @@ passes-again c =
       settles-on (sections o) _ _ (comes-to o) (turning .before .passes-test .taken) (o .passes .inv .3) _ _ _ _ (turning .loop .inv .4) (at-end (c .before)) (not-false _ (c .if3 .left)),
     )
 
-clear-requires : tie.Need-clear-requires Inv-loop μ-loop Inv-passes μ-passes
-clear-requires c κs = search needs
+refuse-requires : tie.Need-refuse-requires Inv-loop μ-loop Inv-passes μ-passes
+refuse-requires c κs = search needs
 
 -- ---- refused
 
@@ -228,13 +216,13 @@ refused c =
 same-length-2 : tie.Need-same-length-2 Inv-loop μ-loop Inv-passes μ-passes
 same-length-2 c =
     let cleared = c .before .before in
-    ap length (cleared .clear .ensures) ∙ length-replicate {A = ℕ} _ 0 ∙ left-long (cleared .before .before)
+    cleared .refuse .kept .0 ∙ left-long (cleared .before .before)
 
 returns-2 : tie.Need-returns-2 Inv-loop μ-loop Inv-passes μ-passes
 returns-2 c =
     let cleared = c .before .before in
     let left = cleared .before .before in
-    (refused left .0, cleared .clear .ensures ∙ ap (λ (n : ℕ). replicate n 0) (left-long left) ∙ refused left .1)
+    (cleared .refuse .ensures .0 ∙ refused left .0, cleared .refuse .ensures .1 ∙ ap (λ (n : ℕ). replicate n 0) (left-long left) ∙ refused left .1)
 
 pub run-passes-spec : {M : Type 1} → statement M
 run-passes-spec =
@@ -248,11 +236,7 @@ run-passes-spec =
     loop-holds
     cast-section-words
     section-words-requires
-    cast-at
-    mul-was
-    slice-read-was
-    mul-table
-    slice-write-table
+    move-mark-requires
     size-of-requires
     enum-known-n
     enum-told
@@ -265,6 +249,6 @@ run-passes-spec =
     add-k
     passes-less
     passes-again
-    clear-requires
+    refuse-requires
     same-length-2
     returns-2)

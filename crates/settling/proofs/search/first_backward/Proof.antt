@@ -1,28 +1,29 @@
--- The invariant: no delta before i is backward. The measure is what is left.
+-- Without a delta none is backward. Else the invariant: no delta before i is. The measure is what is left.
 -- Assumes nothing.
 use Prim.Native.Nat.{_-_, _≤_}
 use native.Mathlib.Omega.{arith}
 use mathlib.Core.Path.{_≡_, sym, _∙_}
 use mathlib.Core.List.{List}
+use borrow.Author.Tests.{not-true}
 use denote.Ref.{now}
 use Rattle.records.specs.Store.{storeOf, wordsPerSection}
 use Rattle.records.specs.Sections.{Section}
 use Rattle.slices.proofs.First.{NoneBefore, search-start, search-next, search-hit, search-done}
 use Rattle.layout.specs.Conditions.{backwardAt, firstBackward}
 use Rattle.settling.specs.SectionWalk.{sectionsOf}
-use Rattle.settling.proofs.Sections.{decode-count, words-fit, Turn, turn, turn-in, backward-test}
+use Rattle.settling.proofs.Sections.{decode-count, words-fit, Turn, turn, turn-in, backward-test, none-backward}
 use Rattle.settling.proofs.search.first_backward.Statement.{statement}
 use Rattle.settling.proofs.search.first_backward.Tie as tie
 
 abbrev Inv-loop : tie.InvT-loop
-Inv-loop store bytes words table i₀ i = (i ≤ store .sections) × NoneBefore (backwardAt table (sectionsOf store bytes words)) i
+Inv-loop store bytes words table has-delta i₀ i = (i ≤ store .sections) × NoneBefore (backwardAt table (sectionsOf store bytes words)) i
 
 abbrev μ-loop : tie.MeasureT-loop
-μ-loop store bytes words table i₀ i = store .sections - i
+μ-loop store bytes words table has-delta i₀ i = store .sections - i
 
 -- the entry and the sections, seen from the loop
 abbrev entry : tie.At-loop Inv-loop μ-loop → tie.Start Inv-loop μ-loop
-entry c = c .before .before .before .before
+entry c = c .before .before .before .before .before
 
 abbrev sections : tie.At-loop Inv-loop μ-loop → List Section
 sections c = sectionsOf (entry c .args .store) (now (entry c .args .bytes)) (now (entry c .args .words))
@@ -32,11 +33,17 @@ abbrev at-loop : tie.After-section-words Inv-loop μ-loop → tie.At-loop Inv-lo
 at-loop c = c .before .before .before
 
 here : (c : tie.After-section-words Inv-loop μ-loop) → Turn (sections (at-loop c)) (at-loop c .loop .i) (c .section-words .result)
-here c = turn _ _ _ (entry (at-loop c) .pre .whole) _ _ (c .before .if1 .taken) (c .section-words .ensures)
+here c = turn _ _ _ (entry (at-loop c) .pre .0 .whole) _ _ (c .before .if2 .taken) (c .section-words .ensures)
 
 -- the code's test is 12's
 tested : (c : tie.After-is-backward Inv-loop μ-loop) → c .is-backward .result ≡ backwardAt (now (entry (at-loop (c .before)) .args .table)) (sections (at-loop (c .before))) (at-loop (c .before) .loop .i)
 tested c = c .is-backward .ensures ∙ backward-test _ _ _ _ (here (c .before))
+
+returns : tie.Need-returns Inv-loop μ-loop
+returns c =
+    let start = c .before .before .before .before in
+    let a = start .args in
+    sym (decode-count wordsPerSection (storeOf (a .store) (now (a .bytes)) (now (a .words)))) ∙ none-backward _ _ (start .pre .1 (not-true _ (c .if1 .taken)))
 
 loop-holds : tie.Need-loop-holds Inv-loop μ-loop
 loop-holds c = (omega arith, search-start _)
@@ -47,16 +54,16 @@ cast-section-words c = omega arith
 section-words-requires : tie.Need-section-words-requires Inv-loop μ-loop
 section-words-requires c κs =
     let turning = c .before .before in
-    words-fit _ _ _ (entry turning .pre .whole) (turning .loop .i) (c .if1 .taken)
+    words-fit _ _ _ (entry turning .pre .0 .whole) (turning .loop .i) (c .if2 .taken)
 
 is-backward-requires : tie.Need-is-backward-requires Inv-loop μ-loop
-is-backward-requires c κs = turn-in _ _ _ _ (entry (at-loop c) .pre) _ _ (here c)
+is-backward-requires c κs = turn-in _ _ _ _ (entry (at-loop c) .pre .0) _ _ (here c)
 
-returns : tie.Need-returns Inv-loop μ-loop
+returns-2 : tie.Need-returns-2 Inv-loop μ-loop
 unfolding firstBackward
-returns c =
+returns-2 c =
     let read = c .before .before in
-    search-hit _ _ _ (at-loop read .loop .inv .1) (here read .below) (sym (tested (c .before)) ∙ c .if2 .taken)
+    search-hit _ _ _ (at-loop read .loop .inv .1) (here read .below) (sym (tested (c .before)) ∙ c .if3 .taken)
 
 add-i : tie.Need-add-i Inv-loop μ-loop
 add-i c = omega arith
@@ -67,11 +74,11 @@ loop-less c = omega arith
 loop-again : tie.Need-loop-again Inv-loop μ-loop
 loop-again c =
     let read = c .before .before in
-    (omega arith, search-next _ _ (at-loop read .loop .inv .1) (sym (tested (c .before)) ∙ c .if2 .left))
+    (omega arith, search-next _ _ (at-loop read .loop .inv .1) (sym (tested (c .before)) ∙ c .if3 .left))
 
-returns-2 : tie.Need-returns-2 Inv-loop μ-loop
+returns-3 : tie.Need-returns-3 Inv-loop μ-loop
 unfolding firstBackward
-returns-2 c =
+returns-3 c =
     let turning = c .before .before in
     let a = entry turning .args in
     let count = decode-count wordsPerSection (storeOf (a .store) (now (a .bytes)) (now (a .words))) in
@@ -83,12 +90,13 @@ first-backward-spec =
     (tie.spec
     Inv-loop
     μ-loop
+    returns
     loop-holds
     cast-section-words
     section-words-requires
     is-backward-requires
-    returns
+    returns-2
     add-i
     loop-less
     loop-again
-    returns-2)
+    returns-3)

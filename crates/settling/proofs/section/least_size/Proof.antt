@@ -8,12 +8,12 @@ use Rattle.settling.specs.SectionWalk.{leastWords}
 use Rattle.settling.proofs.section.least_size.Statement.{statement}
 use Rattle.settling.proofs.section.least_size.Tie as tie
 
-sub-result : tie.Need-sub-result
-sub-result c = c .before .before .before .pre (c .before .if1 .taken)
+span-length-requires : tie.Need-span-length-requires
+span-length-requires c κs = c .before .before .pre (c .if1 .taken)
 
 returns : tie.Need-returns
 unfolding leastWords
-returns c = rw (lt-ltb _ _ (c .before .if1 .taken))
+returns c = rw (lt-ltb _ _ (c .before .if1 .taken)) (c .span-length .ensures)
 
 form-of-requires : tie.Need-form-of-requires
 form-of-requires c κs = search needs
@@ -29,4 +29,4 @@ returns-2 c =
 
 pub least-size-spec : {M : Type 1} → statement M
 least-size-spec =
-    tie.close (tie.spec sub-result returns form-of-requires least-size-requires returns-2)
+    tie.close (tie.spec span-length-requires returns form-of-requires least-size-requires returns-2)

@@ -8,12 +8,12 @@ use Rattle.settling.specs.SectionWalk.{sizeWords}
 use Rattle.settling.proofs.section.size_of.Statement.{statement}
 use Rattle.settling.proofs.section.size_of.Tie as tie
 
-sub-t4 : tie.Need-sub-t4
-sub-t4 c = c .before .before .before .before .pre .1 (c .before .if1 .taken)
+span-length-requires : tie.Need-span-length-requires
+span-length-requires c κs = c .before .before .before .pre .1 (c .if1 .taken)
 
 returns : tie.Need-returns
 unfolding sizeWords
-returns c = rw (lt-ltb _ _ (c .before .if1 .taken))
+returns c = rw (lt-ltb _ _ (c .before .if1 .taken), c .span-length .ensures)
 
 form-of-requires : tie.Need-form-of-requires
 form-of-requires c κs = search needs
@@ -34,4 +34,4 @@ returns-2 c =
 pub size-of-spec : {M : Type 1} → statement M
 size-of-spec =
     tie.close
-    (tie.spec sub-t4 returns form-of-requires value-of-requires size-for-requires returns-2)
+    (tie.spec span-length-requires returns form-of-requires value-of-requires size-for-requires returns-2)

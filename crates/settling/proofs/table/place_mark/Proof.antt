@@ -6,6 +6,9 @@ use borrow.Author.Needs.{needs}
 use Rattle.settling.proofs.table.place_mark.Statement.{statement}
 use Rattle.settling.proofs.table.place_mark.Tie as tie
 
+cast-at : tie.Need-cast-at
+cast-at c = search needs
+
 mul-was : tie.Need-mul-was
 mul-was c = search needs
 
@@ -26,23 +29,24 @@ same-length c = search needs
 
 returns : tie.Need-returns
 returns c =
-    let start = c .before .before in
+    let start = c .before .before .before in
     let a = start .args in
-    placed-set (now (a .table)) (a .mark) (a .sum) (start .pre .0) (c .if1 .taken)
+    placed-set (now (a .table)) (a .mark .0) (a .sum) (start .pre .0) (c .if1 .taken)
 
 add-result : tie.Need-add-result
 add-result c = search needs
 
 returns-2 : tie.Need-returns-2
 returns-2 c =
-    let start = c .before .before in
+    let start = c .before .before .before in
     let a = start .args in
-    placed-kept (now (a .table)) (a .mark) (a .sum) (start .pre .0) (c .if1 .left)
+    placed-kept (now (a .table)) (a .mark .0) (a .sum) (start .pre .0) (c .if1 .left)
 
 pub place-mark-spec : {M : Type 1} → statement M
 place-mark-spec =
     tie.close
     (tie.spec
+    cast-at
     mul-was
     slice-read-was
     add-table

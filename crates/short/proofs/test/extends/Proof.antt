@@ -21,17 +21,17 @@ add-if2 c = search needs
 returns-2 : tie.Need-returns-2
 returns-2 c = λ h. absurd (false≢true h)
 
-cast-if3 : tie.Need-cast-if3
-cast-if3 c = search needs
-
 returns-3 : tie.Need-returns-3
 returns-3 c = λ h. absurd (false≢true h)
+
+mul-if4 : tie.Need-mul-if4
+mul-if4 c = search needs
 
 returns-4 : tie.Need-returns-4
 returns-4 c = λ h. absurd (false≢true h)
 
-mul-if5 : tie.Need-mul-if5
-mul-if5 c = search needs
+cast-if5 : tie.Need-cast-if5
+cast-if5 c = search needs
 
 returns-5 : tie.Need-returns-5
 returns-5 c = λ h. absurd (false≢true h)
@@ -55,9 +55,9 @@ returns-6 c =
     λ h. record {
       room = at-if1 .if1 .left;
       limit = at-if2 .if2 .left;
-      few = at-if3 .if3 .left;
-      some = omega (arith, at-if4 .if4 .left);
-      wordsFit = at-if5 .if5 .left;
+      few = at-if5 .if5 .left;
+      some = omega (arith, at-if3 .if3 .left);
+      wordsFit = at-if4 .if4 .left;
       last = c .is-kind-to .ensures h;
     }
 
@@ -70,10 +70,10 @@ extends-spec =
     cast-if2
     add-if2
     returns-2
-    cast-if3
     returns-3
+    mul-if4
     returns-4
-    mul-if5
+    cast-if5
     returns-5
     sub-is-kind-to
     cast-is-kind-to

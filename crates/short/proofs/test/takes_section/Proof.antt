@@ -12,8 +12,17 @@ cast-stored c = search needs
 cast-sections : tie.Need-cast-sections
 cast-sections c = search needs
 
+cast-next : tie.Need-cast-next
+cast-next c = search needs
+
 returns : tie.Need-returns
 returns c = λ h. absurd (false≢true h)
+
+mul-if2 : tie.Need-mul-if2
+mul-if2 c = search needs
+
+add-if2 : tie.Need-add-if2
+add-if2 c = search needs
 
 returns-2 : tie.Need-returns-2
 returns-2 c = λ h. absurd (false≢true h)
@@ -21,20 +30,11 @@ returns-2 c = λ h. absurd (false≢true h)
 returns-3 : tie.Need-returns-3
 returns-3 c = λ h. absurd (false≢true h)
 
-cast-if4 : tie.Need-cast-if4
-cast-if4 c = search needs
-
 returns-4 : tie.Need-returns-4
 returns-4 c = λ h. absurd (false≢true h)
 
-cast-next : tie.Need-cast-next
-cast-next c = search needs
-
-mul-if5 : tie.Need-mul-if5
-mul-if5 c = search needs
-
-add-if5 : tie.Need-add-if5
-add-if5 c = search needs
+cast-if5 : tie.Need-cast-if5
+cast-if5 c = search needs
 
 returns-5 : tie.Need-returns-5
 returns-5 c = λ h. absurd (false≢true h)
@@ -53,11 +53,11 @@ returns-6 c =
     let at-if2 = at-if3 .before in
     let at-if1 = at-if2 .before in
     λ h. record {
-      some = omega (arith, at-if2 .if2 .left);
-      few = omega (arith, at-if1 .if1 .left);
-      limit = at-if3 .if3 .left;
-      held = at-if4 .if4 .left;
-      free = omega (arith, at-if5 .if5 .left);
+      some = omega (arith, at-if1 .if1 .left);
+      few = omega (arith, at-if3 .if3 .left);
+      limit = omega (arith, at-if4 .if4 .left);
+      held = at-if5 .if5 .left;
+      free = omega (arith, at-if2 .if2 .left);
       last = c .is-whole .ensures h;
     }
 
@@ -67,14 +67,14 @@ takes-section-spec =
     (tie.spec
     cast-stored
     cast-sections
+    cast-next
     returns
+    mul-if2
+    add-if2
     returns-2
     returns-3
-    cast-if4
     returns-4
-    cast-next
-    mul-if5
-    add-if5
+    cast-if5
     returns-5
     sub-is-whole
     is-whole-requires
