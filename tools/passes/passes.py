@@ -131,7 +131,7 @@ def plot(points):
             if passes:
                 out.append(f'<circle cx="{x(count)}" cy="{y(passes)}" r="{size}" fill="{colour}"/>')
             else:
-                out.append(text(x(count), y(PASSES) + 4, "×", f'fill="{colour}" font-size="18" text-anchor="middle"'))
+                out.append(text(x(count), y(PASSES) - 5, "×", f'fill="{colour}" font-size="18" text-anchor="middle"'))
     notes = [("line 11", "line 11's stores; × is number 11 at 1,023"), ("contracts", "contracts: a dispatcher and its functions"), ("random", "random stores")]
     for i, (kind, what) in enumerate(notes):
         out += [f'<circle cx="{x(600)}" cy="{y(300) + 18 * i}" r="3" fill="{looks[kind][0]}"/>', text(x(612), y(300) + 4 + 18 * i, what)]
