@@ -23,15 +23,13 @@ use Rattle.layout.proofs.Premises.{never-backward}
 use Rattle.layout.proofs.Demand3.{demand-3}
 use Rattle.records.specs.declared.damage.Soundness.the-variants.{Sound}
 use Rattle.settling.specs.Settle.{Settlement, settlement, settling}
-use Rattle.settling.proofs.Sections.{stored-is}
 use Rattle.assembler.specs.Emission.{codeOf, writtenLayout}
 use Rattle.assembler.proofs.Lengths.{written-settled}
-use Rattle.assembler.proofs.Places.{still-sum, sizes-five}
 use Rattle.assembler.specs.Assemble.{written, Outcome, assembly}
 use Rattle.assembler.specs.Demand3.{Given, Written, Shortest, Demand3}
 use Rattle.settling.proofs.Decoded.{stored-small}
-use Rattle.assembler.proofs.Laid.{sound-settles, laid}
-use Rattle.assembler.proofs.Outcomes.{LaidBy, written-same, outcome-refused, outcome-written, fits-law}
+use Rattle.assembler.proofs.Laid.{sound-settles, laid, fits-room}
+use Rattle.assembler.proofs.Outcomes.{LaidBy, written-same, outcome-refused, outcome-written}
 
 -- bytes that were written are found again
 code-found : (result code : List ℕ) (position size : ℕ) → position ≤ length result → length code ≡ size → slice position (position + size) (over result position code) ≡ code
@@ -87,10 +85,7 @@ module _ (w : ℕ) (st : Store) (n : ℕ) (result : List ℕ) (position : ℕ) (
   writes-it : (table : List ℕ) (size k : ℕ) → settle n ss ≡ settled table size k → assembly w st n result position ≡ writes table size k
   writes-it table size k e =
       let a = laid-out table size k e in
-      let l = laid w n st table size k a in
-      let fits : position + size ≤ length result =
-      omega (arith, still-sum (entry table) ss 0 size (l .still), sizes-five (entry table) ss, stored-is w st (given .undamaged), given .room, given .inResult) in
-      outcome-written w st n result position table size k a (fits-law (length result) position size .1 fits)
+      outcome-written w st n result position table size k a (fits-room w n st result position table size k a (given .inResult) (given .room))
 
   -- what is answered and left where it is too narrow
   abbrev refuses : ℕ → ℕ → Outcome

@@ -1,9 +1,10 @@
 -- What is known where the settling of a store laid its sections out: the store is undamaged, the table has an entry for every mark, the
 -- last pass stood still, and the code can be written. Assumes nothing.
-use Prim.Native.Nat.{ℕ, _<_}
+use Prim.Native.Nat.{ℕ, _+_, _*_, _-_, _≤_, _<_}
 use native.Mathlib.Omega.{arith}
 use native.Mathlib.Nat.{zero-add}
 use mathlib.Core.Path.{_≡_, refl, sym, ap, _∙_, subst}
+use mathlib.Core.Bool.{false}
 use mathlib.Core.List.{List}
 use lib.ListN.{length, replicate}
 use Rattle.units.specs.Reply.{refused}
@@ -14,6 +15,7 @@ use Rattle.records.specs.declared.damage.Soundness.{Soundness}
 use Rattle.records.specs.declared.damage.Soundness.the-variants.{Sound, Damaged}
 use Rattle.records.specs.declared.record.StoredSection.{StoredSection}
 use Rattle.layout.specs.Passes.{entry, settled, settle}
+use Rattle.layout.specs.Conditions.{references}
 use Rattle.layout.specs.Answer.{Answer, laidOut, noLayout, answer, Says}
 use Rattle.layout.proofs.Answers.{settle-law, answer-law}
 use Rattle.layout.proofs.Moves.{Still}
@@ -25,13 +27,13 @@ use Rattle.undamaged.proofs.Sections.{section-held}
 use Rattle.settling.specs.Settle.{Settlement, settlement, settling}
 use Rattle.settling.specs.SectionWalk.{MarksIn}
 use Rattle.settling.proofs.SectionWords.{Words, words-read, marks-in}
-use Rattle.settling.proofs.Sections.{decode-count, decode-at, span-end, Turn, short-test, backward-test}
+use Rattle.settling.proofs.Sections.{decode-count, decode-at, span-end, stored-is, Turn, short-test, backward-test}
 use Rattle.assembler.specs.Emission.{codeOf}
 use Rattle.assembler.proofs.Lengths.{length-code}
-use Rattle.assembler.proofs.Places.{settled-still, still-sum}
-use Rattle.assembler.specs.Assemble.{written}
+use Rattle.assembler.proofs.Places.{settled-still, still-sum, sizes-five}
+use Rattle.assembler.specs.Assemble.{written, isFull}
 use Rattle.assembler.specs.Writing.{Writable}
-use Rattle.assembler.proofs.Outcomes.{LaidBy, written-same}
+use Rattle.assembler.proofs.Outcomes.{LaidBy, written-same, fits-law}
 
 -- an undamaged store is answered by its sections
 pub sound-settles : (w n : ℕ) (st : Store) → Undamaged w st → settling w n st ≡ settlement n Sound (answer n (decode w st))
@@ -112,3 +114,12 @@ laid w n st table size k e =
             forward = backward-test table ss i x turn ∙ s .2 i (turn .below);
           };
     }
+
+-- a result with room for what is stored and five bytes for each reference isn't full
+pub fits-room : (w n : ℕ) (st : Store) (result : List ℕ) (position : ℕ) (table : List ℕ) (size k : ℕ) → LaidBy w n st table size k
+    → position ≤ length result → st .storedBytes + 5 * references (decode w st) ≤ length result - position
+    → isFull (length result) position size ≡ false
+fits-room w n st result position table size k e inResult room =
+    let l = laid w n st table size k e in
+    let sum = still-sum (entry table) (decode w st) 0 size (l .still) in
+    fits-law (length result) position size .1 (omega (arith, sum, sizes-five (entry table) (decode w st), stored-is w st (l .undamaged)))

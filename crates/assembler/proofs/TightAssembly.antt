@@ -10,39 +10,35 @@ use Rattle.units.specs.Replies.{resultFull}
 use Rattle.units.specs.Reply.{Reply, accepted, refused}
 use Rattle.records.specs.Store.{Store}
 use Rattle.records.specs.Sections.{decode}
-use Rattle.layout.specs.Passes.{entry}
 use Rattle.layout.specs.Shortest.{settledLayout}
 use Rattle.layout.specs.Answer.{Laid}
 use Rattle.layout.specs.Tight.{Decides, SaysLeast}
 use Rattle.layout.proofs.Tight.{least-refused, least-other}
 use Rattle.settling.specs.Settle.{settling}
-use Rattle.settling.proofs.Sections.{stored-is}
 use Rattle.settling.proofs.TightSettling.{settling-within, settling-least}
 use Rattle.assembler.specs.Emission.{writtenLayout}
 use Rattle.assembler.specs.Assemble.{Outcome, isFull, assembly}
+use Rattle.assembler.specs.Demand3.{Given}
 use Rattle.assembler.specs.TightAssembly.{FewAndRoom, AssemblesWithin, AssemblesLeast}
 use Rattle.assembler.proofs.Lengths.{written-settled}
-use Rattle.assembler.proofs.Places.{still-sum, sizes-five}
-use Rattle.assembler.proofs.Outcomes.{laid-by, outcome-refused, outcome-full, outcome-written, fits-law}
-use Rattle.assembler.proofs.Laid.{laid}
+use Rattle.assembler.proofs.Outcomes.{laid-by, outcome-refused, outcome-full, outcome-written}
+use Rattle.assembler.proofs.Laid.{fits-room}
 
 module _ (w : ℕ) (st : Store) (n : ℕ) (result : List ℕ) (position : ℕ) where
-  -- the code of an undamaged store fits a result with room for what is stored and five bytes for each reference
-  fits : FewAndRoom w st n result position → (l : Laid) → settling w n st .reply ≡ accepted l → isFull (length result) position (l .length) ≡ false
-  fits given l e =
-      let table : List ℕ = settling w n st .table in
-      let still = laid w n st table (l .length) (l .passes) (laid-by w st n result position l e) .still in
-      fits-law (length result) position (l .length) .1
-      (omega (
-        arith,
-        still-sum (entry table) (decode w st) 0 (l .length) still,
-        sizes-five (entry table) (decode w st),
-        stored-is w st (given .few .undamaged),
-        given .room,
-        given .inResult,
-      ))
+  -- it has all of demand 3's stores
+  pub demand-3-few : Given w st n result position → FewAndRoom w st n result position
+  demand-3-few given =
+      record {
+        few = record {
+          undamaged = given .undamaged;
+          plain = record { inTable = given .inTable; direct = given .direct; marksPlaced = given .marksPlaced; together = given .together };
+          few = omega (arith, given .few);
+        };
+        inResult = given .inResult;
+        room = given .room;
+      }
 
-  -- so it answers what settling does
+  -- under the premise it answers what settling does, as the code fits
   pub assembly-within : AssemblesWithin w st n result position (assembly w st n result position .reply)
   assembly-within given = go (settling w n st .reply) refl
     where
@@ -54,7 +50,10 @@ module _ (w : ℕ) (st : Store) (n : ℕ) (result : List ℕ) (position : ℕ) w
           subst (λ (o : Outcome). Decides (decode w st) (o .reply)) (sym (outcome-refused w st n result position number i k e))
           (subst (Decides (decode w st)) e settled)
       go (accepted l) e =
-          let is = outcome-written w st n result position (settling w n st .table) (l .length) (l .passes) (laid-by w st n result position l e) (fits given l e) in
+          let table : List ℕ = settling w n st .table in
+          let by = laid-by w st n result position l e in
+          let fits = fits-room w n st result position table (l .length) (l .passes) by (given .inResult) (given .room) in
+          let is = outcome-written w st n result position table (l .length) (l .passes) by fits in
           subst (λ (o : Outcome). Decides (decode w st) (o .reply)) (sym is) (subst (Decides (decode w st)) e settled)
 
   -- what is to be shown of an outcome
