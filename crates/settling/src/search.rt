@@ -12,15 +12,20 @@ ghost use Rattle.layout.specs.Conditions.{Never, deltaAt, firstUnplaced, firstB
 ghost use Rattle.settling.specs.SectionWalk.{sectionsOf, Fitting, shortWords, MarksIn, unplacedWords, backwardWords};
 ghost use Rattle.settling.specs.SectionWalk.{firstSums, allPlaced};
 
-// 7, for one section. Without branches on the kind: a branch predictor can't guess the kinds of a mixed store. So the words are compared
-// as numbers, whether they are marks or not.
+// 7, for one section. It goes by kinds as `place` does, so that the two are compiled to the same branches.
 pub(crate) fn is_short(section: StoredSection, limit: usize) -> bool
     ensures { λ r. ⌜ r ≡ shortWords limit section ⌝ }
 {
-    let kind = section.kind;
-    let first = limit <= (section.first as usize);
-    let second = limit <= (section.second as usize);
-    (first & ((kind == kind::MARK) | (kind::DATA < kind))) | (second & (kind::DIRECT < kind))
+    if section.kind == kind::MARK {
+        return limit <= (section.first as usize);
+    }
+    if section.kind < kind::DIRECT {
+        return false;
+    }
+    if limit <= (section.first as usize) {
+        return true;
+    }
+    (limit <= (section.second as usize)) & (kind::DIRECT < section.kind)
 }
 
 // 8, for one section, by the table of first placings.
