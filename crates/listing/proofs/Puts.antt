@@ -7,7 +7,10 @@ use mathlib.Core.Path.{_≡_, refl, sym, ap, _∙_}
 use mathlib.Core.List.{List, [], _∷_, _++_}
 use lib.ListN.{length, set, length-append}
 use lib.Seq.{sets, length-sets, set-out}
+use denote.Ref.{now, at-last}
 use Rattle.listing.specs.Put.{Put, Room}
+use Rattle.listing.specs.Sink.{added}
+use Rattle.listing.specs.declared.sink.TextSink.{TextSink}
 
 -- a text after another
 sets-append : (x y t : List ℕ) (at : ℕ) → sets t at (x ++ y) ≡ sets (sets t at x) (at + length x) y
@@ -15,6 +18,20 @@ sets-append [] y t at = rw add-zero
 sets-append (a ∷ x) y t at =
     sets-append x y (set t at a) (suc at)
     ∙ ap (λ (n : ℕ). sets (sets (set t at a) (suc at) x) n y) (suc-add at (length x) ∙ sym (add-suc at (length x)))
+
+-- a text after another, added to a sink
+pub added-append : (h : TextSink) (x y : List ℕ) → added (added h x) y ≡ added h (x ++ y)
+added-append h x y = λ i. record { text = at-last (h .text) (texts i); count = counts i }
+  where
+    texts : sets (sets (now (h .text)) (h .count) x) (h .count + length x) y ≡ sets (now (h .text)) (h .count) (x ++ y)
+    texts = sym (sets-append x y (now (h .text)) (h .count))
+
+    counts : h .count + length x + length y ≡ h .count + length (x ++ y)
+    counts = omega (arith, length-append x y)
+
+-- nothing added
+pub added-none : (h : TextSink) → added h [] ≡ h
+added-none h = λ i. record { text = h .text; count = add-zero (h .count) i }
 
 -- nothing put
 pub put-none : (t : List ℕ) (at : ℕ) → Put t at [] at t

@@ -2,3 +2,4 @@ pub mod Decimal
 pub mod Listing
 pub mod Answer
 pub mod Put
+pub mod Sink

@@ -8,7 +8,7 @@ mod text;
 use records::Assembler;
 use records::Soundness;
 use records::check_store;
-use sink::write_store;
+use sections::write_store;
 use units::Refusal;
 ghost use mathlib.Core.Path.{_≡_};
 ghost use lib.ListN.{length};
