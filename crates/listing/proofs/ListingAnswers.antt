@@ -8,7 +8,7 @@ use mathlib.Core.Bool.{Bool, true, false, cond}
 use mathlib.Core.Logic.{_↔_}
 use mathlib.Core.List.{List, _++_}
 use lib.ListN.{length, drop}
-use lib.Seq.{sets-eq}
+use lib.Seq.{sets, sets-eq}
 use lib.Dec.{ltb, eqb}
 use borrow.Author.Tests.{lt-ltb, le-ltb, ltb-true, ltb-false}
 use Rattle.units.specs.Replies as number
@@ -103,15 +103,18 @@ module _ (w : ℕ) (st : Store) (buffer : List ℕ) where
   pub answers-damaged : (i : ℕ) → wholeSoundness w st ≡ Damaged i → Answers (refused number.damaged i 0) buffer
   answers-damaged i e = answers (damaged i) (damaged-at-iff w st i .0 e)
 
-  -- an undamaged store; n is the listing's length as the code has it
-  module _ (u : Undamaged w st) (n : ℕ) (counted : n ≡ length (storeText w st)) where
+  -- an undamaged store; n is the listing's length as the code has it, and the buffer is as it was once it is known
+  module _ (u : Undamaged w st) (n : ℕ) (counted : n ≡ length (storeText w st)) {then : List ℕ} (same : then ≡ buffer) where
     -- 14: the listing passes the buffer
-    pub answers-full : length buffer < n → Answers (refused listingFull 0 0) buffer
-    answers-full h = answers full (u, omega arith)
+    pub answers-full : length then < n → Answers (refused listingFull 0 0) then
+    answers-full h =
+        let given = answers full (u, omega (arith, ap length same)) in
+        (given .0, same ∙ given .1)
 
     -- it fits
-    pub answers-text : {r : ℕ} {after : List ℕ} → n ≤ length buffer → Put buffer 0 (storeText w st) r after → Answers (accepted n) after
+    pub answers-text : {r : ℕ} {after : List ℕ} → n ≤ length then → Put then 0 (storeText w st) r after → Answers (accepted n) after
     answers-text h p =
-        let given = answers (written n) (u, counted, h) in
-        let put = p .text ∙ sets-eq (storeText w st) buffer 0 (omega arith) ∙ ap (λ (k : ℕ). storeText w st ++ drop k buffer) (zero-add _ ∙ sym counted) in
+        let text : List ℕ = storeText w st in
+        let given = answers (written n) (u, counted, omega (arith, ap length same)) in
+        let put = p .text ∙ ap (λ (l : List ℕ). sets l 0 text) same ∙ sets-eq text buffer 0 (omega (arith, ap length same)) ∙ ap (λ (k : ℕ). text ++ drop k buffer) (zero-add _ ∙ sym counted) in
         (given .0, put ∙ given .1)

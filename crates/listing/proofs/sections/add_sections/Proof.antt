@@ -1,10 +1,10 @@
 -- `sections::add_sections` meets its contract: a walk of its MIR, by hand, with a loop. The invariant (`State`): adding the lines of the
 -- sections from i on to the sink gives what the contract says. The measure is what is left of the sections.
 -- Assumes nothing.
-use mathlib.Core.Path.{_≡_, refl, sym, ap, _∙_, subst}
+use mathlib.Core.Path.{_≡_, refl, sym, ap, subst}
 use mathlib.Core.Bool.{Bool, true, false}
 use mathlib.Core.WellFounded.{invImage}
-use Prim.Native.Nat.{ℕ, _+_, _*_, _-_, _<_, _^_, _≤_}
+use Prim.Native.Nat.{ℕ, _+_, _-_, _<_, _^_, _≤_}
 use native.Mathlib.Omega.{arith}
 use mathlib.Core.List.{[], _∷_, List}
 use lib.Dec.{ltb, lit<}
@@ -19,14 +19,14 @@ use base.Logic.{SProp, ent, id⊢, exE, snd∗}
 use base.Fml.{Lft, Share, Fml, ftrue, fat, froom, fdies, flft}
 use prog.Memory.{Memory}
 use prog.Routine.{Routine}
-use prog.Wp.{Heap, Env, Calls, Loops, Wp, WpFn, Tables, atReturn, afterSeq, afterBlock, afterTurn}
+use prog.Wp.{Heap, Env, Wp, WpFn, Tables, atReturn, afterSeq, afterBlock, afterTurn}
 use ghost.Atoms.{Atoms, sem}
 use contract.Lifetimes.{Lfts}
 use contract.Monad.{Fun, fact}
 use contract.Running.{givenOf, tables, tablesOf}
 use types.Kit as Kit
 use types.Kit.{Given, Item, ‵, raw, given, ⋆, group, runs, anyQ, atRet, Sq, _⊛_, some, later, _$_, _∵_, !, qed, by, move, keep, drop, use0, use1, use2, rewrite, split, join, pick, learn, fsplit, fjoin, suffices, frame, await, done}
-use types.Run.{look, init, store, forget, stop, fld, from, load, lit, bin, of-opd, and-then, no-more, assigns, assigns-last, first, blocks, stays, leaves-loop, land, returns, enter, alloc1, alloc0, params1, pass1, pass0, exec, loops, again, Below}
+use types.Run.{look, init, store, forget, stop, from, load, lit, bin, of-opd, and-then, no-more, assigns, assigns-last, first, blocks, stays, leaves-loop, land, returns, enter, alloc1, alloc0, params1, pass1, pass0, exec, loops, again, Below}
 use sound.WpLaws.{FmC, fmOf, WpFn-mono}
 use denote.RattleType.{owns}
 use denote.Laws.{Is, shows}
