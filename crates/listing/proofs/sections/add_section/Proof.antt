@@ -20,7 +20,7 @@ use ghost.Atoms.{Atoms, sem}
 use contract.Monad.{Fun, fact}
 use contract.Running.{givenOf, tables, tablesOf}
 use types.Kit as Kit
-use types.Kit.{Given, Item, ‵, raw, given, group, runs, anyQ, atRet, Sq, _⊛_, some, later, _$_, _∵_, !, qed, by, move, keep, drop, use0, use1, use2, rewrite, split, join, pick, learn, fsplit, fjoin, await, done}
+use types.Kit.{Given, Item, ‵, raw, given, ⋆, group, runs, anyQ, atRet, Sq, _⊛_, some, later, _$_, _∵_, !, qed, by, move, keep, drop, use0, use1, use2, rewrite, split, join, pick, learn, fsplit, fjoin, await, done}
 use types.Run.{look, init, forget, stop, fld, from, load, of-opd, and-then, no-more, assigns, first, switches, land, land-last, returns, enter, alloc1, alloc0, params1, pass1, pass0, exec}
 use types.Part.{agg, whole, sub, look-in}
 use sound.WpLaws.{FmC, fmOf, WpFn-mono}
@@ -102,7 +102,7 @@ opsText bs s = opsLines (spanBytes bs s)
 abbrev dataText : List ℕ → BytesSpan → List ℕ
 dataText bs s = dataLine (spanBytes bs s)
 
--- `add_section` has the contract of an adder
+-- the contracts that the proof cites
 abbrev MarkC : {M : Type 1} (𝓤 : URA M) (H : Heap 𝓤) (A : Atoms 𝓤) → Contract 𝓤
 MarkC = A₁.AddC mark-value markText
 
@@ -147,9 +147,6 @@ module _ {M : Type 1} (𝓤 : URA M) (H : Heap 𝓤) (A : Atoms 𝓤) (W : Given
   abbrev OwnB : Fml
   OwnB = Bytes κ′ .own xb (sb ∷ [])
 
-  abbrev Post : Val → SProp 𝓤
-  Post = A₂.Post words-value Needs wordsText 𝓤 H A W κ κ′ q q′ (h .text .ptr .0) (h .text .ptr .1) (h .text .name) (h .text .now) (h .count) h-fits xb v v-is
-
   -- the values of the adders, and that they are such
   fits : (v .kind < 2 ^ 32) × ((v .first < 2 ^ 32) × (v .second < 2 ^ 32))
   fits = let parts = LL.owed S.the-type S′.the-laws v _ v-is in (parts .0 .1, (parts .1 .0 .1, parts .1 .1 .0 .1))
@@ -171,7 +168,9 @@ module _ {M : Type 1} (𝓤 : URA M) (H : Heap 𝓤) (A : Atoms 𝓤) (W : Given
   module _ (C : Calls 𝓤 H) (Λ : Loops 𝓤 H) (fm : FmC 𝓤 H (W .laws) C) (known-mark : Triple 𝓤 (C mark-def.name) (MarkC 𝓤 H A)) (known-ops : Triple 𝓤 (C ops-def.name) (OpsC 𝓤 H A))
       (known-data : Triple 𝓤 (C data-def.name) (DataC 𝓤 H A)) (known-in : Triple 𝓤 (C reference-in-def.name) (InC 𝓤 H A mem run))
       (known-reference : Triple 𝓤 (C reference-def.name) (ReferenceC 𝓤 H A)) where
-    module _ (h-is : Is (Sink κ) h (w₀ ∷ [])) (ok : Needs (now xb) v) (room : Room (h .count) t) (l₀ l₁ l₂ l₃ l₄ l₅ l₆ l₇ l₈ l₉ l₁₀ l₁₁ l₁₂ l₁₃ l₁₄ l₁₅ l₁₆ : ℕ) where
+    -- Post is what the walk ends in, at the result's machine value
+    module _ (Post : Val → SProp 𝓤) (exits : (g : TextSink) (w : Val) → g ≡ added h t → ent 𝓤 (⋆ 𝓤 H A (Tokens ∷ ‵ (Sink κ .own g (w ∷ [])) ∷ ‵ OwnB ∷ [])) (Post w))
+        (h-is : Is (Sink κ) h (w₀ ∷ [])) (ok : Needs (now xb) v) (room : Room (h .count) t) (l₀ l₁ l₂ l₃ l₄ l₅ l₆ l₇ l₈ l₉ l₁₀ l₁₁ l₁₂ l₁₃ l₁₄ l₁₅ l₁₆ : ℕ) where
       abbrev En : Env 𝓤 H
       En = (T′.mir (named 0), l₀) ∷ (T′.mir (named 0), l₁) ∷ (shared, l₂) ∷ (S′.mir, l₃) ∷ (T′.mir erased, l₄) ∷ (T′.mir erased, l₅) ∷ (K′.mir, l₆)
           ∷ (T′.mir erased, l₇) ∷ (I′.mir, l₈) ∷ (I′.mir, l₉) ∷ (B′.mir, l₁₀) ∷ (T′.mir erased, l₁₁) ∷ (I′.mir, l₁₂) ∷ (I′.mir, l₁₃) ∷ (B′.mir, l₁₄)
@@ -205,8 +204,7 @@ module _ {M : Type 1} (𝓤 : URA M) (H : Heap 𝓤) (A : Atoms 𝓤) (W : Given
           assigns ! (of-opd ! (load ! (from ! (stop !)) (look ! 27 refl))) (from ! (stop !)) (init ! 35 refl (sink-named 𝓤 H A W κ g w is)) $
           returns ! (look ! 35 refl) $ forget ! 27 refl $ forget ! 29 refl $ forget ! 31 refl $ forget ! 33 refl $ forget ! 35 refl $
           move ! (35 ∷ 36 ∷ 33 ∷ 34 ∷ 31 ∷ 32 ∷ 29 ∷ 30 ∷ 27 ∷ 28 ∷ 25 ∷ 26 ∷ 23 ∷ 24 ∷ 21 ∷ 22 ∷ 19 ∷ 20 ∷ 17 ∷ 18 ∷ 15 ∷ 16 ∷ 13 ∷ 14 ∷ 11 ∷ 12 ∷ 9 ∷ 10 ∷ 7 ∷ 8 ∷ 5 ∷ 6 ∷ 3 ∷ 4 ∷ []) $ frees-all ! _ $
-          keep ! (1 ∷ 0 ∷ 2 ∷ []) $
-          by ! (A₂.exits words-value Needs wordsText 𝓤 H A W κ κ′ q q′ (h .text .ptr .0) (h .text .ptr .1) (h .text .name) (h .text .now) (h .count) h-fits xb v v-is g w e)
+          keep ! (1 ∷ 0 ∷ 2 ∷ []) $ by ! (exits g w e)
 
       -- ---- the arms. At the start of each: [the sink; the tokens; the bytes; _16; …; _15; …; and so on to _0; …], local i at 3 + 2 * (16 - i)
 
@@ -351,8 +349,15 @@ module _ {M : Type 1} (𝓤 : URA M) (H : Heap 𝓤) (A : Atoms 𝓤) (W : Given
           (atRet En Post))
       body = first ! $ switches ! (load ! (from ! (fld ! refl (stop !))) (look-in ! 29 (sub ! 0 refl (whole !)))) (mark-arm, (ops-arm, (data-arm, reference-arm)))
 
+    -- the end of an adder's walk
+    abbrev Post₀ : Val → SProp 𝓤
+    Post₀ = A₂.Post words-value Needs wordsText 𝓤 H A W κ κ′ q q′ (h .text .ptr .0) (h .text .ptr .1) (h .text .name) (h .text .now) (h .count) h-fits xb v v-is
+
+    exits₀ : (g : TextSink) (w : Val) → g ≡ added h t → ent 𝓤 (⋆ 𝓤 H A (Tokens ∷ ‵ (Sink κ .own g (w ∷ [])) ∷ ‵ OwnB ∷ [])) (Post₀ w)
+    exits₀ = A₂.exits words-value Needs wordsText 𝓤 H A W κ κ′ q q′ (h .text .ptr .0) (h .text .ptr .1) (h .text .name) (h .text .now) (h .count) h-fits xb v v-is
+
     walk : Is (Sink κ) h (w₀ ∷ []) → Is (Bytes κ′) xb (sb ∷ []) → Needs (now xb) v → Room (h .count) t
-        → ent 𝓤 (onEntry 𝓤 H A this.signature (κ, (κ′, tt)) (q, (q′, tt)) (h, (xb, (v, tt))) (w₀ ∷ [], (sb ∷ [], (sv ∷ [], tt)))) (WpFn 𝓤 H C Λ code.function (w₀ ∷ sb ∷ sv ∷ []) Post)
+        → ent 𝓤 (onEntry 𝓤 H A this.signature (κ, (κ′, tt)) (q, (q′, tt)) (h, (xb, (v, tt))) (w₀ ∷ [], (sb ∷ [], (sv ∷ [], tt)))) (WpFn 𝓤 H C Λ code.function (w₀ ∷ sb ∷ sv ∷ []) Post₀)
     walk h-is pb ok room =
         qed W (Tokens ∷ ‵ (owns (Sink κ ∷ Bytes κ′ ∷ S.the-row ∷ []) (h, (xb, (v, tt))) (w₀ ∷ [], (sb ∷ [], (sv ∷ [], tt)))) ∷ []) ∵ enter ! C Λ code.function (w₀ ∷ sb ∷ sv ∷ []) _ $
         alloc1 ! (λ l₀. alloc1 ! (λ l₁. alloc1 ! (λ l₂. alloc1 ! (λ l₃. alloc1 ! (λ l₄. alloc1 ! (λ l₅. alloc1 ! (λ l₆. alloc1 ! (λ l₇. alloc1 ! (λ l₈. alloc1 ! (λ l₉.
@@ -360,7 +365,7 @@ module _ {M : Type 1} (𝓤 : URA M) (H : Heap 𝓤) (A : Atoms 𝓤) (W : Given
         pass1 ! (init ! 30 refl (sink-named 𝓤 H A W κ h w₀ h-is)) $ pass1 ! (init ! 28 refl (shr-slice-lawful 𝓤 H A W (named 1) κ′ u8 .typed xb (sb ∷ []) pb .0)) $
         pass1 ! (init ! 26 refl (LL.lawful S.the-type S′.the-laws 𝓤 H A W .typed v _ v-is .0)) $ pass0 ! $
         move ! (35 ∷ []) $ fsplit ! $ move ! (1 ∷ []) $ fsplit ! $ move ! (1 ∷ []) $ drop ! $ move ! (1 ∷ 36 ∷ []) $
-        body h-is ok room l₀ l₁ l₂ l₃ l₄ l₅ l₆ l₇ l₈ l₉ l₁₀ l₁₁ l₁₂ l₁₃ l₁₄ l₁₅ l₁₆)))))))))))))))))
+        body Post₀ exits₀ h-is ok room l₀ l₁ l₂ l₃ l₄ l₅ l₆ l₇ l₈ l₉ l₁₀ l₁₁ l₁₂ l₁₃ l₁₄ l₁₅ l₁₆)))))))))))))))))
 
 module _ {M : Type 1} (𝓤 : URA M) (H : Heap 𝓤) (A : Atoms 𝓤) (W : Given 𝓤 H A) (mem : Memory → SProp 𝓤) (run : Routine → Fun 𝓤) where
   add-section-walks : (C : Calls 𝓤 H) (Λ : Loops 𝓤 H) → FmC 𝓤 H (W .laws) C → Triple 𝓤 (C mark-def.name) (MarkC 𝓤 H A) → Triple 𝓤 (C ops-def.name) (OpsC 𝓤 H A)
