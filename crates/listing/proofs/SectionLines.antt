@@ -1,7 +1,7 @@
 -- The text of a section of an undamaged store, by its kind word: one law for each way that the code goes. Assumes nothing.
 use Prim.Native.Nat.{ℕ, _≤_}
 use mathlib.Core.Path.{_≡_, sym, ap, _∙_, subst}
-use mathlib.Core.Bool.{false}
+use mathlib.Core.Bool.{false, true≢false}
 use mathlib.Core.List.{List, [], _∷_}
 use lib.ListN.{length}
 use types.Run.{OneOf, miss}
@@ -23,7 +23,7 @@ use Rattle.listing.specs.Listing.{markLine, opsLines, dataLine, referenc
 use Rattle.listing.specs.Put.{wordsText}
 
 module _ (bs : List ℕ) (x : StoredSection) (here : ReadIn (length bs) (readSection x)) where
-  readable : unreadable (readSection x) ≡ false
+  pub readable : unreadable (readSection x) ≡ false
   readable = can-read (length bs) (readSection x) here
 
   -- the text of what it is read as
@@ -39,16 +39,19 @@ module _ (bs : List ℕ) (x : StoredSection) (here : ReadIn (length bs) (readSec
   pub text-data : x .kind ≡ dataKind → SpanIn (length bs) (span (x .first) (x .second)) × (wordsText bs x ≡ dataLine (spanBytes bs (span (x .first) (x .second))))
   text-data k = let e = data-read (reads x) readable k in (subst (ReadIn (length bs)) e here, text-of _ e)
 
-  -- the other kinds are references
-  module _ (k : directKind ≤ x .kind) {v : SectionRead} (e : v ≡ readSection x) where
-    pub text-reference : (s : AsmSection) (r : AsmReference) → v ≡ Read s → s ≡ MarkRef r → wordsText bs x ≡ referenceLine r
-    text-reference s r i j = text-of _ (sym e ∙ i ∙ ap Read j)
+  pub text-reference : (r : AsmReference) → readSection x ≡ Read (MarkRef r) → wordsText bs x ≡ referenceLine r
+  text-reference r e = text-of _ e
 
-    pub never-damaged : v ≡ Damaged → ⊥
-    never-damaged i = subst (ReadIn (length bs)) (sym e ∙ i) here
+-- the other kinds are references: what the reading v can't be, and what it is
+module _ (x : StoredSection) (k : directKind ≤ x .kind) (u : unreadable (readSection x) ≡ false) {v : SectionRead} (e : v ≡ readSection x) where
+  pub never-damaged : v ≡ Damaged → ⊥
+  never-damaged i = true≢false (subst (λ (y : SectionRead). unreadable y ≡ false) (sym e ∙ i) u)
 
-    pub never-other : (s : AsmSection) → v ≡ Read s → OneOf (0 ∷ 1 ∷ 2 ∷ []) (tagOf the-type s) → ⊥
-    never-other s i o =
-        let found = reference-read (reads x) readable k in
-        let same : s ≡ MarkRef (found .0) = cc in
-        miss (0 ∷ 1 ∷ 2 ∷ []) _ tt (subst (λ (y : AsmSection). OneOf (0 ∷ 1 ∷ 2 ∷ []) (tagOf the-type y)) same o)
+  pub never-other : (s : AsmSection) → v ≡ Read s → OneOf (0 ∷ 1 ∷ 2 ∷ []) (tagOf the-type s) → ⊥
+  never-other s i o =
+      let found = reference-read (reads x) u k in
+      let same : s ≡ MarkRef (found .0) = cc in
+      miss (0 ∷ 1 ∷ 2 ∷ []) _ tt (subst (λ (y : AsmSection). OneOf (0 ∷ 1 ∷ 2 ∷ []) (tagOf the-type y)) same o)
+
+  pub reads-reference : (s : AsmSection) (r : AsmReference) → v ≡ Read s → s ≡ MarkRef r → readSection x ≡ Read (MarkRef r)
+  reads-reference s r i j = sym e ∙ i ∙ ap Read j
