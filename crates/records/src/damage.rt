@@ -1,7 +1,10 @@
 // The tests for number 6: the whole store's, and the lesser one of a building call.
 use crate::Assembler;
 use crate::kind;
+use crate::record::AsmSection;
+use crate::record::SectionRead;
 use crate::record::StoredSection;
+use crate::record::read_section;
 use units::AsmBytesIdx;
 use units::BytesSpan;
 use units::form;
@@ -13,7 +16,7 @@ ghost use lib.ListN.{length};
 ghost use Rattle.records.specs.Store.{storeOf, wordsPerSection, wordsAt, badCounts};
 ghost use Rattle.records.specs.Record.{readSection, maxMark};
 ghost use Rattle.records.specs.Damage.{unreadable, isSpan, spansEnd, brokenReply, wholeSoundness, lastSoundness};
-ghost use Rattle.records.specs.Held.{heldRead, endsElsewhere, spanMisplaced, isMisplaced, endAfter};
+ghost use Rattle.records.specs.Held.{heldBy, heldRead, endsElsewhere, spanMisplaced, isMisplaced, endAfter};
 
 // Sound, or the section that number 6 reports.
 pub enum Soundness {
@@ -63,11 +66,11 @@ pub fn check_last(store: Assembler, bytes: &[u8], words: &[u32]) -> Soundness
         return Soundness::Sound;
     }
     let last = sections - 1;
-    let read = read_held(section_words(words, last as usize));
-    let HeldRead::Read(held) = read else {
+    let read = read_section(section_words(words, last as usize));
+    let SectionRead::Read(section) = read else {
         return Soundness::Damaged(last);
     };
-    if ends_elsewhere(held, store.bytes) {
+    if ends_elsewhere(held_by(section), store.bytes) {
         Soundness::Damaged(last)
     } else {
         Soundness::Sound
@@ -185,6 +188,18 @@ fn read_held(section: StoredSection) -> HeldRead
         }))
     } else {
         HeldRead::Read(Held::Nothing)
+    }
+}
+
+// What a section holds of the bytes.
+fn held_by(section: AsmSection) -> Held
+    ensures { λ r. ⌜ r ≡ heldBy section ⌝ }
+{
+    match section {
+        AsmSection::Mark(_) => Held::Nothing,
+        AsmSection::Ops(span) => Held::Bytes(span),
+        AsmSection::Data(span) => Held::Bytes(span),
+        AsmSection::MarkRef(_) => Held::Nothing,
     }
 }
 
