@@ -176,20 +176,44 @@ module _ {M : Type 1} (𝓤 : URA M) (H : Heap 𝓤) (A : Atoms 𝓤) (W : Given
           ∷ (T′.mir erased, l₇) ∷ (I′.mir, l₈) ∷ (I′.mir, l₉) ∷ (B′.mir, l₁₀) ∷ (T′.mir erased, l₁₁) ∷ (I′.mir, l₁₂) ∷ (I′.mir, l₁₃) ∷ (B′.mir, l₁₄)
           ∷ (T′.mir erased, l₁₅) ∷ (R′.mir, l₁₆) ∷ []
 
-      -- the locals outside the arms, of which the arms' own are empty; what is in _4, the match's value, is given
-      abbrev Locals : Item 𝓤 → List (Item 𝓤)
-      Locals i =
-          ‵ (froom R′.mir l₁₆ 0) ∷ ‵ (fdies R′.mir l₁₆) ∷ ‵ (froom (T′.mir erased) l₁₅ 0) ∷ ‵ (fdies (T′.mir erased) l₁₅) ∷ ‵ (froom B′.mir l₁₄ 0) ∷ ‵ (fdies B′.mir l₁₄)
-          ∷ ‵ (froom I′.mir l₁₃ 0) ∷ ‵ (fdies I′.mir l₁₃) ∷ ‵ (froom I′.mir l₁₂ 0) ∷ ‵ (fdies I′.mir l₁₂) ∷ ‵ (froom (T′.mir erased) l₁₁ 0) ∷ ‵ (fdies (T′.mir erased) l₁₁)
-          ∷ ‵ (froom B′.mir l₁₀ 0) ∷ ‵ (fdies B′.mir l₁₀) ∷ ‵ (froom I′.mir l₉ 0) ∷ ‵ (fdies I′.mir l₉) ∷ ‵ (froom I′.mir l₈ 0) ∷ ‵ (fdies I′.mir l₈)
-          ∷ ‵ (froom (T′.mir erased) l₇ 0) ∷ ‵ (fdies (T′.mir erased) l₇) ∷ ‵ (froom K′.mir l₆ 0) ∷ ‵ (fdies K′.mir l₆) ∷ ‵ (froom (T′.mir erased) l₅ 0) ∷ ‵ (fdies (T′.mir erased) l₅)
-          ∷ i ∷ ‵ (fdies (T′.mir erased) l₄) ∷ ‵ (fat fullShare S′.mir l₃ 0 sv) ∷ ‵ (fdies S′.mir l₃)
-          ∷ ‵ (fat fullShare shared l₂ 0 sb) ∷ ‵ (fdies shared l₂) ∷ ‵ (fat fullShare (T′.mir (named 0)) l₁ 0 w₀) ∷ ‵ (fdies (T′.mir (named 0)) l₁)
-          ∷ ‵ (froom (T′.mir (named 0)) l₀ 0) ∷ ‵ (fdies (T′.mir (named 0)) l₀) ∷ []
+      -- what every arm reads or writes: the sink h with its machine value, the tokens, the bytes, and _4 to _1. What is in _4, the match's value, is given
+      abbrev Common : Item 𝓤 → Item 𝓤 → List (Item 𝓤) → List (Item 𝓤)
+      Common sink i Γ =
+          sink ∷ Tokens ∷ ‵ OwnB ∷ i ∷ ‵ (fat fullShare S′.mir l₃ 0 sv) ∷ ‵ (fat fullShare shared l₂ 0 sb) ∷ ‵ (fat fullShare (T′.mir (named 0)) l₁ 0 w₀) ∷ Γ
 
-      -- where an arm starts
-      abbrev Start : Item 𝓤 → List (Item 𝓤)
-      Start i = ‵ (Sink κ .own h (w₀ ∷ [])) ∷ Tokens ∷ ‵ OwnB ∷ Locals i
+      -- the locals of each arm alone, empty
+      abbrev Mark : List (Item 𝓤) → List (Item 𝓤)
+      Mark Γ = ‵ (froom K′.mir l₆ 0) ∷ ‵ (froom (T′.mir erased) l₅ 0) ∷ Γ
+
+      abbrev Ops : List (Item 𝓤) → List (Item 𝓤)
+      Ops Γ = ‵ (froom B′.mir l₁₀ 0) ∷ ‵ (froom I′.mir l₉ 0) ∷ ‵ (froom I′.mir l₈ 0) ∷ ‵ (froom (T′.mir erased) l₇ 0) ∷ Γ
+
+      abbrev Data : List (Item 𝓤) → List (Item 𝓤)
+      Data Γ = ‵ (froom B′.mir l₁₄ 0) ∷ ‵ (froom I′.mir l₁₃ 0) ∷ ‵ (froom I′.mir l₁₂ 0) ∷ ‵ (froom (T′.mir erased) l₁₁ 0) ∷ Γ
+
+      abbrev Reference : List (Item 𝓤) → List (Item 𝓤)
+      Reference Γ = ‵ (froom R′.mir l₁₆ 0) ∷ ‵ (froom (T′.mir erased) l₁₅ 0) ∷ Γ
+
+      -- the result's room, and that each local dies
+      abbrev Others : List (Item 𝓤)
+      Others =
+          ‵ (froom (T′.mir (named 0)) l₀ 0) ∷ ‵ (fdies (T′.mir (named 0)) l₀) ∷ ‵ (fdies (T′.mir (named 0)) l₁) ∷ ‵ (fdies shared l₂) ∷ ‵ (fdies S′.mir l₃)
+          ∷ ‵ (fdies (T′.mir erased) l₄) ∷ ‵ (fdies (T′.mir erased) l₅) ∷ ‵ (fdies K′.mir l₆) ∷ ‵ (fdies (T′.mir erased) l₇) ∷ ‵ (fdies I′.mir l₈) ∷ ‵ (fdies I′.mir l₉)
+          ∷ ‵ (fdies B′.mir l₁₀) ∷ ‵ (fdies (T′.mir erased) l₁₁) ∷ ‵ (fdies I′.mir l₁₂) ∷ ‵ (fdies I′.mir l₁₃) ∷ ‵ (fdies B′.mir l₁₄) ∷ ‵ (fdies (T′.mir erased) l₁₅)
+          ∷ ‵ (fdies R′.mir l₁₆) ∷ []
+
+      abbrev All : List (Item 𝓤)
+      All = Mark (Ops (Data (Reference Others)))
+
+      -- the sink at the start, _4 without and with a value
+      abbrev Given₀ : Item 𝓤
+      Given₀ = ‵ (Sink κ .own h (w₀ ∷ []))
+
+      abbrev Empty : Item 𝓤
+      Empty = ‵ (froom (T′.mir erased) l₄ 0)
+
+      abbrev Full : Val → Item 𝓤
+      Full w = ‵ (fat fullShare (T′.mir erased) l₄ 0 w)
 
       -- the code after the match, and what an arm has to end in
       abbrev last : Body
@@ -198,15 +222,18 @@ module _ {M : Type 1} (𝓤 : URA M) (H : Heap 𝓤) (A : Atoms 𝓤) (W : Given
       abbrev Then : Kit.Post 𝓤 H
       Then = anyQ (afterSeq 𝓤 H (Wp 𝓤 H C Λ En last (atReturn 𝓤 H En Post)) (atReturn 𝓤 H En Post))
 
-      ends : (g : TextSink) (w : Val) → g ≡ added h t → Is (Sink κ) g (w ∷ [])
-          → Sq W (‵ (Sink κ .own g (w ∷ [])) ∷ Tokens ∷ ‵ OwnB ∷ Locals (‵ (fat fullShare (T′.mir erased) l₄ 0 w))) (runs C Λ En last (atRet En Post))
+      -- what an arm goes on with, where Γ is had beside what is common
+      abbrev Ends : List (Item 𝓤) → Type 1
+      Ends Γ = (g : TextSink) (w : Val) → g ≡ added h t → Is (Sink κ) g (w ∷ []) → Sq W (Common (‵ (Sink κ .own g (w ∷ []))) (Full w) Γ) (runs C Λ En last (atRet En Post))
+
+      ends : Ends All
       ends g w e is =
-          assigns ! (of-opd ! (load ! (from ! (stop !)) (look ! 27 refl))) (from ! (stop !)) (init ! 35 refl (sink-named 𝓤 H A W κ g w is)) $
-          returns ! (look ! 35 refl) $ forget ! 27 refl $ forget ! 29 refl $ forget ! 31 refl $ forget ! 33 refl $ forget ! 35 refl $
-          move ! (35 ∷ 36 ∷ 33 ∷ 34 ∷ 31 ∷ 32 ∷ 29 ∷ 30 ∷ 27 ∷ 28 ∷ 25 ∷ 26 ∷ 23 ∷ 24 ∷ 21 ∷ 22 ∷ 19 ∷ 20 ∷ 17 ∷ 18 ∷ 15 ∷ 16 ∷ 13 ∷ 14 ∷ 11 ∷ 12 ∷ 9 ∷ 10 ∷ 7 ∷ 8 ∷ 5 ∷ 6 ∷ 3 ∷ 4 ∷ []) $ frees-all ! _ $
+          assigns ! (of-opd ! (load ! (from ! (stop !)) (look ! 3 refl))) (from ! (stop !)) (init ! 19 refl (sink-named 𝓤 H A W κ g w is)) $
+          returns ! (look ! 19 refl) $ forget ! 3 refl $ forget ! 4 refl $ forget ! 5 refl $ forget ! 6 refl $ forget ! 19 refl $
+          move ! (19 ∷ 20 ∷ 6 ∷ 21 ∷ 5 ∷ 22 ∷ 4 ∷ 23 ∷ 3 ∷ 24 ∷ 8 ∷ 25 ∷ 7 ∷ 26 ∷ 12 ∷ 27 ∷ 11 ∷ 28 ∷ 10 ∷ 29 ∷ 9 ∷ 30 ∷ 16 ∷ 31 ∷ 15 ∷ 32 ∷ 14 ∷ 33 ∷ 13 ∷ 34 ∷ 18 ∷ 35 ∷ 17 ∷ 36 ∷ []) $ frees-all ! _ $
           keep ! (1 ∷ 0 ∷ 2 ∷ []) $ by ! (exits g w e)
 
-      -- ---- the arms. At the start of each: [the sink; the tokens; the bytes; _16; …; _15; …; and so on to _0; …], local i at 3 + 2 * (16 - i)
+      -- ---- the arms. At the start of each: [the sink; the tokens; the bytes; _4; _3; _2; _1; the arm's own; Γ]
 
       abbrev mark-code : Body
       mark-code =
@@ -214,23 +241,23 @@ module _ {M : Type 1} (𝓤 : URA M) (H : Heap 𝓤) (A : Atoms 𝓤) (W : Given
           seq (assign (place 6 []) (aggregate (copy (place 3 (field 1 ∷ [])) ∷ []))) (
           call mark-def.name (copy (place 5 []) ∷ copy (place 6 []) ∷ []) (place 4 [])))
 
-      mark-arm : v .kind ≡ 0 → Sq W (Start (‵ (froom (T′.mir erased) l₄ 0))) (runs C Λ En mark-code Then)
-      mark-arm k =
-          assigns ! (of-opd ! (load ! (from ! (stop !)) (look ! 33 refl))) (from ! (stop !)) (init ! 25 refl (sink-typed κ h w₀ h-is)) $
-          assigns ! (agg ! (and-then ! (load ! (from ! (fld ! refl (stop !))) (look-in ! 29 (sub ! 1 refl (whole !)))) (no-more !))) (from ! (stop !)) (init ! 23 refl (tt, (record { fits = fits .1 .0 }, tt))) $
+      mark-arm : (Γ : List (Item 𝓤)) → Ends (Mark Γ) → v .kind ≡ 0 → Sq W (Common Given₀ Empty (Mark Γ)) (runs C Λ En mark-code Then)
+      mark-arm Γ go k =
+          assigns ! (of-opd ! (load ! (from ! (stop !)) (look ! 6 refl))) (from ! (stop !)) (init ! 8 refl (sink-typed κ h w₀ h-is)) $
+          assigns ! (agg ! (and-then ! (load ! (from ! (fld ! refl (stop !))) (look-in ! 4 (sub ! 1 refl (whole !)))) (no-more !))) (from ! (stop !)) (init ! 7 refl (tt, (record { fits = fits .1 .0 }, tt))) $
           -- [the sink's token; the sink; the bytes' token; the bytes; _16; …]
           move ! (1 ∷ []) $ split ! $ nothing ! $ move ! (1 ∷ 0 ∷ []) $ join ! $ move ! (0 ∷ 2 ∷ []) $
           use2 W (raw (MarkC 𝓤 H A .pre (A₁.to-add mark-value markText 𝓤 H A W κ q h w₀ m)))
           (A₁.add-pre mark-value markText 𝓤 H A W κ q h w₀ m m-is (room-is _ (text-mark (now xb) v ok k) room)) $
           calls-at-last ! fm (MarkC 𝓤 H A) known-mark (A₁.to-add mark-value markText 𝓤 H A W κ q h w₀ m)
-          (and-then ! (load ! (from ! (stop !)) (look ! 25 refl)) (and-then ! (load ! (from ! (stop !)) (look ! 23 refl)) (no-more !))) (λ w.
+          (and-then ! (load ! (from ! (stop !)) (look ! 8 refl)) (and-then ! (load ! (from ! (stop !)) (look ! 7 refl)) (no-more !))) (λ w.
           use1 W (later (some (λ (g : TextSink). given (g ≡ added h (markText m)) ((‵ (flft κ q) ⊛ ‵ ftrue) ⊛ ‵ (Sink κ .own g (w ∷ []))))))
           (A₁.add-post mark-value markText 𝓤 H A W κ q h w₀ m w) $ await ! tt $ pick ! (λ g. learn ! (λ e. split ! $
           move ! (1 ∷ []) $ peeks ! (Sink κ) (Is (Sink κ)) (shows 𝓤 H A (Sink κ)) g (w ∷ []) (λ is.
-          land-last ! (from ! (stop !)) (init ! 28 refl (sink-typed κ g w is)) $ forget ! 26 refl $ forget ! 24 refl $
+          land-last ! (from ! (stop !)) (init ! 4 refl (sink-typed κ g w is)) $ forget ! 9 refl $ forget ! 8 refl $
           -- [the sink; its token; the bytes' token; the bytes; _16; …]
           move ! (1 ∷ []) $ split ! $ move ! (1 ∷ []) $ drop ! $ move ! (0 ∷ 2 ∷ []) $ join ! $ move ! (1 ∷ []) $
-          exec ! C Λ En last (atRet En Post) $ ends g w (e ∙ ap (added h) (sym (text-mark (now xb) v ok k))) is))))
+          exec ! C Λ En last (atRet En Post) $ go g w (e ∙ ap (added h) (sym (text-mark (now xb) v ok k))) is))))
 
       abbrev ops-code : Body
       ops-code =
@@ -240,25 +267,25 @@ module _ {M : Type 1} (𝓤 : URA M) (H : Heap 𝓤) (A : Atoms 𝓤) (W : Given
           seq (assign (place 10 []) (aggregate (copy (place 8 []) ∷ copy (place 9 []) ∷ []))) (
           call ops-def.name (copy (place 7 []) ∷ copy (place 2 []) ∷ copy (place 10 []) ∷ []) (place 4 [])))))
 
-      ops-arm : v .kind ≡ 1 → Sq W (Start (‵ (froom (T′.mir erased) l₄ 0))) (runs C Λ En ops-code Then)
-      ops-arm k =
-          assigns ! (of-opd ! (load ! (from ! (stop !)) (look ! 33 refl))) (from ! (stop !)) (init ! 21 refl (sink-typed κ h w₀ h-is)) $
-          assigns ! (agg ! (and-then ! (load ! (from ! (fld ! refl (stop !))) (look-in ! 29 (sub ! 1 refl (whole !)))) (no-more !))) (from ! (stop !)) (init ! 19 refl (tt, (record { fits = fits .1 .0 }, tt))) $
-          assigns ! (agg ! (and-then ! (load ! (from ! (fld ! refl (stop !))) (look-in ! 29 (sub ! 2 refl (whole !)))) (no-more !))) (from ! (stop !)) (init ! 17 refl (tt, (record { fits = fits .1 .1 }, tt))) $
-          assigns ! (agg ! (and-then ! (load ! (from ! (stop !)) (look ! 19 refl)) (and-then ! (load ! (from ! (stop !)) (look ! 17 refl)) (no-more !))))
-          (from ! (stop !)) (init ! 15 refl (tt, ((record { fits = fits .1 .0 }, tt), ((record { fits = fits .1 .1 }, tt), tt)))) $
+      ops-arm : (Γ : List (Item 𝓤)) → Ends (Ops Γ) → v .kind ≡ 1 → Sq W (Common Given₀ Empty (Ops Γ)) (runs C Λ En ops-code Then)
+      ops-arm Γ go k =
+          assigns ! (of-opd ! (load ! (from ! (stop !)) (look ! 6 refl))) (from ! (stop !)) (init ! 10 refl (sink-typed κ h w₀ h-is)) $
+          assigns ! (agg ! (and-then ! (load ! (from ! (fld ! refl (stop !))) (look-in ! 4 (sub ! 1 refl (whole !)))) (no-more !))) (from ! (stop !)) (init ! 9 refl (tt, (record { fits = fits .1 .0 }, tt))) $
+          assigns ! (agg ! (and-then ! (load ! (from ! (fld ! refl (stop !))) (look-in ! 4 (sub ! 2 refl (whole !)))) (no-more !))) (from ! (stop !)) (init ! 8 refl (tt, (record { fits = fits .1 .1 }, tt))) $
+          assigns ! (agg ! (and-then ! (load ! (from ! (stop !)) (look ! 9 refl)) (and-then ! (load ! (from ! (stop !)) (look ! 8 refl)) (no-more !))))
+          (from ! (stop !)) (init ! 7 refl (tt, ((record { fits = fits .1 .0 }, tt), ((record { fits = fits .1 .1 }, tt), tt)))) $
           -- the bytes are had twice: [the bytes; the bytes; the sink; the tokens; _16; …]
           move ! (2 ∷ []) $ use1 W (‵ OwnB ⊛ ‵ OwnB) (shr-slice-copy 𝓤 H A W (named 1) κ′ u8 .twice xb (sb ∷ [])) $ split ! $ move ! (3 ∷ 2 ∷ 0 ∷ []) $ group ! 3 $
           use1 W (raw (OpsC 𝓤 H A .pre (A₂.to-add span-value inBytes opsText 𝓤 H A W κ κ′ q q′ h w₀ xb sp)))
           (A₂.add-pre span-value inBytes opsText 𝓤 H A W κ κ′ q q′ h w₀ xb sp sp-is (text-ops (now xb) v ok k .0, room-is _ (text-ops (now xb) v ok k .1) room)) $
           calls-at-last ! fm (OpsC 𝓤 H A) known-ops (A₂.to-add span-value inBytes opsText 𝓤 H A W κ κ′ q q′ h w₀ xb sp)
-          (and-then ! (load ! (from ! (stop !)) (look ! 20 refl)) (and-then ! (load ! (from ! (stop !)) (look ! 30 refl)) (and-then ! (load ! (from ! (stop !)) (look ! 14 refl)) (no-more !)))) (λ w.
+          (and-then ! (load ! (from ! (stop !)) (look ! 9 refl)) (and-then ! (load ! (from ! (stop !)) (look ! 4 refl)) (and-then ! (load ! (from ! (stop !)) (look ! 6 refl)) (no-more !)))) (λ w.
           use1 W (later (some (λ (g : TextSink). given (g ≡ added h (opsText (now xb) sp)) (Tokens ⊛ ‵ (Sink κ .own g (w ∷ []))))))
           (A₂.add-post span-value inBytes opsText 𝓤 H A W κ κ′ q q′ h w₀ xb sp w) $ await ! tt $ pick ! (λ g. learn ! (λ e. split ! $
           -- [the tokens; the sink; the bytes; _16; …]
           move ! (1 ∷ []) $ peeks ! (Sink κ) (Is (Sink κ)) (shows 𝓤 H A (Sink κ)) g (w ∷ []) (λ is.
-          land-last ! (from ! (stop !)) (init ! 27 refl (sink-typed κ g w is)) $ forget ! 21 refl $ forget ! 19 refl $ forget ! 17 refl $ forget ! 15 refl $
-          exec ! C Λ En last (atRet En Post) $ ends g w (e ∙ ap (added h) (sym (text-ops (now xb) v ok k .1))) is))))
+          land-last ! (from ! (stop !)) (init ! 3 refl (sink-typed κ g w is)) $ forget ! 10 refl $ forget ! 9 refl $ forget ! 8 refl $ forget ! 7 refl $
+          exec ! C Λ En last (atRet En Post) $ go g w (e ∙ ap (added h) (sym (text-ops (now xb) v ok k .1))) is))))
 
       abbrev data-code : Body
       data-code =
@@ -268,25 +295,25 @@ module _ {M : Type 1} (𝓤 : URA M) (H : Heap 𝓤) (A : Atoms 𝓤) (W : Given
           seq (assign (place 14 []) (aggregate (copy (place 12 []) ∷ copy (place 13 []) ∷ []))) (
           call data-def.name (copy (place 11 []) ∷ copy (place 2 []) ∷ copy (place 14 []) ∷ []) (place 4 [])))))
 
-      data-arm : v .kind ≡ 2 → Sq W (Start (‵ (froom (T′.mir erased) l₄ 0))) (runs C Λ En data-code Then)
-      data-arm k =
-          assigns ! (of-opd ! (load ! (from ! (stop !)) (look ! 33 refl))) (from ! (stop !)) (init ! 13 refl (sink-typed κ h w₀ h-is)) $
-          assigns ! (agg ! (and-then ! (load ! (from ! (fld ! refl (stop !))) (look-in ! 29 (sub ! 1 refl (whole !)))) (no-more !))) (from ! (stop !)) (init ! 11 refl (tt, (record { fits = fits .1 .0 }, tt))) $
-          assigns ! (agg ! (and-then ! (load ! (from ! (fld ! refl (stop !))) (look-in ! 29 (sub ! 2 refl (whole !)))) (no-more !))) (from ! (stop !)) (init ! 9 refl (tt, (record { fits = fits .1 .1 }, tt))) $
-          assigns ! (agg ! (and-then ! (load ! (from ! (stop !)) (look ! 11 refl)) (and-then ! (load ! (from ! (stop !)) (look ! 9 refl)) (no-more !))))
+      data-arm : (Γ : List (Item 𝓤)) → Ends (Data Γ) → v .kind ≡ 2 → Sq W (Common Given₀ Empty (Data Γ)) (runs C Λ En data-code Then)
+      data-arm Γ go k =
+          assigns ! (of-opd ! (load ! (from ! (stop !)) (look ! 6 refl))) (from ! (stop !)) (init ! 10 refl (sink-typed κ h w₀ h-is)) $
+          assigns ! (agg ! (and-then ! (load ! (from ! (fld ! refl (stop !))) (look-in ! 4 (sub ! 1 refl (whole !)))) (no-more !))) (from ! (stop !)) (init ! 9 refl (tt, (record { fits = fits .1 .0 }, tt))) $
+          assigns ! (agg ! (and-then ! (load ! (from ! (fld ! refl (stop !))) (look-in ! 4 (sub ! 2 refl (whole !)))) (no-more !))) (from ! (stop !)) (init ! 8 refl (tt, (record { fits = fits .1 .1 }, tt))) $
+          assigns ! (agg ! (and-then ! (load ! (from ! (stop !)) (look ! 9 refl)) (and-then ! (load ! (from ! (stop !)) (look ! 8 refl)) (no-more !))))
           (from ! (stop !)) (init ! 7 refl (tt, ((record { fits = fits .1 .0 }, tt), ((record { fits = fits .1 .1 }, tt), tt)))) $
           -- the bytes are had twice: [the bytes; the bytes; the sink; the tokens; _16; …]
           move ! (2 ∷ []) $ use1 W (‵ OwnB ⊛ ‵ OwnB) (shr-slice-copy 𝓤 H A W (named 1) κ′ u8 .twice xb (sb ∷ [])) $ split ! $ move ! (3 ∷ 2 ∷ 0 ∷ []) $ group ! 3 $
           use1 W (raw (DataC 𝓤 H A .pre (A₂.to-add span-value inBytes dataText 𝓤 H A W κ κ′ q q′ h w₀ xb sp)))
           (A₂.add-pre span-value inBytes dataText 𝓤 H A W κ κ′ q q′ h w₀ xb sp sp-is (text-data (now xb) v ok k .0, room-is _ (text-data (now xb) v ok k .1) room)) $
           calls-at-last ! fm (DataC 𝓤 H A) known-data (A₂.to-add span-value inBytes dataText 𝓤 H A W κ κ′ q q′ h w₀ xb sp)
-          (and-then ! (load ! (from ! (stop !)) (look ! 12 refl)) (and-then ! (load ! (from ! (stop !)) (look ! 30 refl)) (and-then ! (load ! (from ! (stop !)) (look ! 6 refl)) (no-more !)))) (λ w.
+          (and-then ! (load ! (from ! (stop !)) (look ! 9 refl)) (and-then ! (load ! (from ! (stop !)) (look ! 4 refl)) (and-then ! (load ! (from ! (stop !)) (look ! 6 refl)) (no-more !)))) (λ w.
           use1 W (later (some (λ (g : TextSink). given (g ≡ added h (dataText (now xb) sp)) (Tokens ⊛ ‵ (Sink κ .own g (w ∷ []))))))
           (A₂.add-post span-value inBytes dataText 𝓤 H A W κ κ′ q q′ h w₀ xb sp w) $ await ! tt $ pick ! (λ g. learn ! (λ e. split ! $
           -- [the tokens; the sink; the bytes; _16; …]
           move ! (1 ∷ []) $ peeks ! (Sink κ) (Is (Sink κ)) (shows 𝓤 H A (Sink κ)) g (w ∷ []) (λ is.
-          land-last ! (from ! (stop !)) (init ! 27 refl (sink-typed κ g w is)) $ forget ! 13 refl $ forget ! 11 refl $ forget ! 9 refl $ forget ! 7 refl $
-          exec ! C Λ En last (atRet En Post) $ ends g w (e ∙ ap (added h) (sym (text-data (now xb) v ok k .1))) is))))
+          land-last ! (from ! (stop !)) (init ! 3 refl (sink-typed κ g w is)) $ forget ! 10 refl $ forget ! 9 refl $ forget ! 8 refl $ forget ! 7 refl $
+          exec ! C Λ En last (atRet En Post) $ go g w (e ∙ ap (added h) (sym (text-data (now xb) v ok k .1))) is))))
 
       -- a kind that is none of these is a reference's
       abbrev None : Type 0
@@ -316,38 +343,48 @@ module _ {M : Type 1} (𝓤 : URA M) (H : Heap 𝓤) (A : Atoms 𝓤) (W : Given
           seq (call reference-in-def.name (copy (place 3 []) ∷ []) (place 16 [])) (
           call reference-def.name (copy (place 15 []) ∷ copy (place 16 []) ∷ []) (place 4 [])))
 
-      reference-arm : None → Sq W (Start (‵ (froom (T′.mir erased) l₄ 0))) (runs C Λ En reference-code Then)
-      reference-arm none =
-          assigns ! (of-opd ! (load ! (from ! (stop !)) (look ! 33 refl))) (from ! (stop !)) (init ! 5 refl (sink-typed κ h w₀ h-is)) $
+      reference-arm : (Γ : List (Item 𝓤)) → Ends (Reference Γ) → None → Sq W (Common Given₀ Empty (Reference Γ)) (runs C Λ En reference-code Then)
+      reference-arm Γ go none =
+          assigns ! (of-opd ! (load ! (from ! (stop !)) (look ! 6 refl))) (from ! (stop !)) (init ! 8 refl (sink-typed κ h w₀ h-is)) $
           use0 W (raw (InC 𝓤 H A mem run .pre to-in)) (goes-in none) $
-          calls-at ! fm (InC 𝓤 H A mem run) known-in to-in (and-then ! (load ! (from ! (stop !)) (look ! 30 refl)) (no-more !)) (λ wr.
+          calls-at ! fm (InC 𝓤 H A mem run) known-in to-in (and-then ! (load ! (from ! (stop !)) (look ! 5 refl)) (no-more !)) (λ wr.
           use1 W (later (some (λ (r : AsmReference). (‵ ftrue ⊛ ‵ (R.the-row .own r (wr ∷ []))) ⊛ raw (ensured 𝓤 H A reference-in.ended (reference-in.clauses 𝓤 H A mem run) tt (v, tt) tt r))))
           (id⊢ 𝓤 _) $ await ! tt $ pick ! (λ r. split ! $ move ! (1 ∷ []) $
           use1 W (raw (fact 𝓤 (readSection v ≡ Read (MarkRef r)))) (in-of 𝓤 H A mem run v r) $ heard ! (readSection v ≡ Read (MarkRef r)) (λ i. split ! $ drop ! $
           -- [the reference; the sink; the tokens; the bytes; _16; …]
           peeks ! R.the-row (Is R.the-row) (shows 𝓤 H A R.the-row) r (wr ∷ []) (λ ir. drop ! $
-          land ! (from ! (stop !)) (init ! 3 refl (LL.lawful R.the-type R′.the-laws 𝓤 H A W .typed r _ ir .0)) $
-          rewrite ! 3 (λ (u : Val). ‵ (fat fullShare R′.mir l₁₆ 0 u)) (ap only (LL.tells R.the-type R′.the-laws r _ ir)) refl $
+          land ! (from ! (stop !)) (init ! 7 refl (LL.lawful R.the-type R′.the-laws 𝓤 H A W .typed r _ ir .0)) $
+          rewrite ! 7 (λ (u : Val). ‵ (fat fullShare R′.mir l₁₆ 0 u)) (ap only (LL.tells R.the-type R′.the-laws r _ ir)) refl $
           -- [the sink's token; the sink; the bytes' token; the bytes; _16; …]
           move ! (1 ∷ []) $ split ! $ nothing ! $ move ! (1 ∷ 0 ∷ []) $ join ! $ move ! (0 ∷ 2 ∷ []) $
           use2 W (raw (ReferenceC 𝓤 H A .pre (A₁.to-add reference-value referenceLine 𝓤 H A W κ q h w₀ r)))
           (A₁.add-pre reference-value referenceLine 𝓤 H A W κ q h w₀ r (subst (Is R.the-row r) (LL.tells R.the-type R′.the-laws r _ ir) ir) (room-is _ (text-reference (now xb) v ok r i) room)) $
           calls-at-last ! fm (ReferenceC 𝓤 H A) known-reference (A₁.to-add reference-value referenceLine 𝓤 H A W κ q h w₀ r)
-          (and-then ! (load ! (from ! (stop !)) (look ! 5 refl)) (and-then ! (load ! (from ! (stop !)) (look ! 3 refl)) (no-more !))) (λ w.
+          (and-then ! (load ! (from ! (stop !)) (look ! 8 refl)) (and-then ! (load ! (from ! (stop !)) (look ! 7 refl)) (no-more !))) (λ w.
           use1 W (later (some (λ (g : TextSink). given (g ≡ added h (referenceLine r)) ((‵ (flft κ q) ⊛ ‵ ftrue) ⊛ ‵ (Sink κ .own g (w ∷ []))))))
           (A₁.add-post reference-value referenceLine 𝓤 H A W κ q h w₀ r w) $ await ! tt $ pick ! (λ g. learn ! (λ e. split ! $
           move ! (1 ∷ []) $ peeks ! (Sink κ) (Is (Sink κ)) (shows 𝓤 H A (Sink κ)) g (w ∷ []) (λ is.
-          land-last ! (from ! (stop !)) (init ! 28 refl (sink-typed κ g w is)) $ forget ! 6 refl $ forget ! 4 refl $
+          land-last ! (from ! (stop !)) (init ! 4 refl (sink-typed κ g w is)) $ forget ! 9 refl $ forget ! 8 refl $
           -- [the sink; its token; the bytes' token; the bytes; _16; …]
           move ! (1 ∷ []) $ split ! $ move ! (1 ∷ []) $ drop ! $ move ! (0 ∷ 2 ∷ []) $ join ! $ move ! (1 ∷ []) $
-          exec ! C Λ En last (atRet En Post) $ ends g w (e ∙ ap (added h) (sym (text-reference (now xb) v ok r i))) is))))))))
+          exec ! C Λ En last (atRet En Post) $ go g w (e ∙ ap (added h) (sym (text-reference (now xb) v ok r i))) is))))))))
 
       -- ---- the match
-      body : Sq W (Start (‵ (froom (T′.mir erased) l₄ 0)))
+      body : Sq W (Common Given₀ Empty All)
           (runs C Λ En
           (seq (switch (copy (place 3 (field 0 ∷ []))) (arm (0 ∷ []) mark-code (arm (1 ∷ []) ops-code (arm (2 ∷ []) data-code (default reference-code))))) last)
           (atRet En Post))
-      body = first ! $ switches ! (load ! (from ! (fld ! refl (stop !))) (look-in ! 29 (sub ! 0 refl (whole !)))) (mark-arm, (ops-arm, (data-arm, reference-arm)))
+      body =
+          first ! $ switches ! (load ! (from ! (fld ! refl (stop !))) (look-in ! 4 (sub ! 0 refl (whole !)))) (
+            mark-arm (Ops (Data (Reference Others))) ends,
+            (
+              λ k. move ! (0 ∷ 1 ∷ 2 ∷ 3 ∷ 4 ∷ 5 ∷ 6 ∷ 9 ∷ 10 ∷ 11 ∷ 12 ∷ []) $ ops-arm (Mark (Data (Reference Others))) (λ g w e is. move ! (0 ∷ 1 ∷ 2 ∷ 3 ∷ 4 ∷ 5 ∷ 6 ∷ 11 ∷ 12 ∷ []) $ ends g w e is) k,
+              (
+                λ k. move ! (0 ∷ 1 ∷ 2 ∷ 3 ∷ 4 ∷ 5 ∷ 6 ∷ 13 ∷ 14 ∷ 15 ∷ 16 ∷ []) $ data-arm (Mark (Ops (Reference Others))) (λ g w e is. move ! (0 ∷ 1 ∷ 2 ∷ 3 ∷ 4 ∷ 5 ∷ 6 ∷ 11 ∷ 12 ∷ 13 ∷ 14 ∷ 15 ∷ 16 ∷ []) $ ends g w e is) k,
+                λ none. move ! (0 ∷ 1 ∷ 2 ∷ 3 ∷ 4 ∷ 5 ∷ 6 ∷ 17 ∷ 18 ∷ []) $ reference-arm (Mark (Ops (Data Others))) (λ g w e is. move ! (0 ∷ 1 ∷ 2 ∷ 3 ∷ 4 ∷ 5 ∷ 6 ∷ 9 ∷ 10 ∷ 11 ∷ 12 ∷ 13 ∷ 14 ∷ 15 ∷ 16 ∷ 17 ∷ 18 ∷ []) $ ends g w e is) none,
+              ),
+            ),
+          )
 
     -- the end of an adder's walk
     abbrev Post₀ : Val → SProp 𝓤
@@ -365,6 +402,7 @@ module _ {M : Type 1} (𝓤 : URA M) (H : Heap 𝓤) (A : Atoms 𝓤) (W : Given
         pass1 ! (init ! 30 refl (sink-named 𝓤 H A W κ h w₀ h-is)) $ pass1 ! (init ! 28 refl (shr-slice-lawful 𝓤 H A W (named 1) κ′ u8 .typed xb (sb ∷ []) pb .0)) $
         pass1 ! (init ! 26 refl (LL.lawful S.the-type S′.the-laws 𝓤 H A W .typed v _ v-is .0)) $ pass0 ! $
         move ! (35 ∷ []) $ fsplit ! $ move ! (1 ∷ []) $ fsplit ! $ move ! (1 ∷ []) $ drop ! $ move ! (1 ∷ 36 ∷ []) $
+        move ! (0 ∷ 1 ∷ 2 ∷ 27 ∷ 29 ∷ 31 ∷ 33 ∷ 23 ∷ 25 ∷ 15 ∷ 17 ∷ 19 ∷ 21 ∷ 7 ∷ 9 ∷ 11 ∷ 13 ∷ 3 ∷ 5 ∷ 35 ∷ 36 ∷ 34 ∷ 32 ∷ 30 ∷ 28 ∷ 26 ∷ 24 ∷ 22 ∷ 20 ∷ 18 ∷ 16 ∷ 14 ∷ 12 ∷ 10 ∷ 8 ∷ 6 ∷ 4 ∷ []) $
         body Post₀ exits₀ h-is ok room l₀ l₁ l₂ l₃ l₄ l₅ l₆ l₇ l₈ l₉ l₁₀ l₁₁ l₁₂ l₁₃ l₁₄ l₁₅ l₁₆)))))))))))))))))
 
 module _ {M : Type 1} (𝓤 : URA M) (H : Heap 𝓤) (A : Atoms 𝓤) (W : Given 𝓤 H A) (mem : Memory → SProp 𝓤) (run : Routine → Fun 𝓤) where

@@ -158,11 +158,11 @@ module _ {M : Type 1} (𝓤 : URA M) (H : Heap 𝓤) (A : Atoms 𝓤) (W : Given
   abbrev OwnW : Fml
   OwnW = ShrSlice (named 2) κ″ u32 .own xw (sw ∷ [])
 
-  abbrev Post : Val → SProp 𝓤
-  Post = walkOf 𝓤 H A this.ended stayed (this.clauses 𝓤 H A mem run) .post ((κs, (q, (q′, (q″, tt))), tt, a, vals), tt)
+  abbrev Post₀ : Val → SProp 𝓤
+  Post₀ = walkOf 𝓤 H A this.ended stayed (this.clauses 𝓤 H A mem run) .post ((κs, (q, (q′, (q″, tt))), tt, a, vals), tt)
 
-  exits : (g : TextSink) (w : Val) → g ≡ added h₀ txt → ent 𝓤 (⋆ 𝓤 H A (Tokens ∷ ‵ (Sink κ .own g (w ∷ [])) ∷ ‵ OwnB ∷ ‵ OwnW ∷ [])) (Post w)
-  exits g w e =
+  exits₀ : (g : TextSink) (w : Val) → g ≡ added h₀ txt → ent 𝓤 (⋆ 𝓤 H A (Tokens ∷ ‵ (Sink κ .own g (w ∷ [])) ∷ ‵ OwnB ∷ ‵ OwnW ∷ [])) (Post₀ w)
+  exits₀ g w e =
       qed W (Tokens ∷ ‵ (Sink κ .own g (w ∷ [])) ∷ ‵ OwnB ∷ ‵ OwnW ∷ []) ∵
       suffices ! _ (ends-at 𝓤 H A this.ended stayed (this.clauses 𝓤 H A mem run) W ((κs, (q, (q′, (q″, tt))), tt, a, vals), tt) w g
       ((tt, tt), (tt, (tt, (tt, (tt, tt))))) ((tt, (tt, tt)), (tt, (tt, (tt, (tt, tt)))))) $
@@ -197,7 +197,9 @@ module _ {M : Type 1} (𝓤 : URA M) (H : Heap 𝓤) (A : Atoms 𝓤) (W : Given
         qed W ((‵ (flft κ″ q″) ⊛ ‵ ftrue) ∷ ‵ OwnW ∷ []) ∵ says ! (omega (arith, undamaged-iff wordsPerSection st .0 (ok .sound) .wordsFit)) $ frame ! $
         nothing ! $ owned ! u32 (Is u32) (uint-makes 𝓤 H A W w32) i _ (refl, omega (arith, sections-fits)) $ fjoin ! $ move ! (1 ∷ 0 ∷ []) $ fjoin ! $ done !
 
-    module _ (l₀ l₁ l₂ l₃ l₄ l₅ l₆ l₇ l₈ l₉ : ℕ) where
+    -- Post is what the walk ends in, at the result's machine value
+    module _ (Post : Val → SProp 𝓤) (exits : (g : TextSink) (w : Val) → g ≡ added h₀ txt → ent 𝓤 (⋆ 𝓤 H A (Tokens ∷ ‵ (Sink κ .own g (w ∷ [])) ∷ ‵ OwnB ∷ ‵ OwnW ∷ [])) (Post w))
+        (l₀ l₁ l₂ l₃ l₄ l₅ l₆ l₇ l₈ l₉ : ℕ) where
       abbrev En : Env 𝓤 H
       En = (T′.mir (named 0), l₀) ∷ (T′.mir (named 0), l₁) ∷ (tyInt w32, l₂) ∷ (tyInt w32, l₃) ∷ (shared, l₄) ∷ (words, l₅) ∷ (tyInt w32, l₆) ∷ (tyBool, l₇)
           ∷ (T′.mir erased, l₈) ∷ (S′.mir, l₉) ∷ []
@@ -285,7 +287,7 @@ module _ {M : Type 1} (𝓤 : URA M) (H : Heap 𝓤) (A : Atoms 𝓤) (W : Given
       body x = first ! $ blocks ! $ loops ! 𝓣 ≺ (invImage (λ (y : State). sections - y .i) Nat·lt-wfRel .wf) At turns x
 
     walk : Is (Sink κ) h₀ (w₀ ∷ []) → Is (Bytes κ′) xb (sb ∷ []) → Is (ShrSlice (named 2) κ″ u32) xw (sw ∷ [])
-        → ent 𝓤 (onEntry 𝓤 H A this.signature κs (q, (q′, (q″, tt))) a vals) (WpFn 𝓤 H (𝓣 .C) (𝓣 .Λ) code.function (w₀ ∷ vint w32 stored ∷ vint w32 sections ∷ sb ∷ sw ∷ []) Post)
+        → ent 𝓤 (onEntry 𝓤 H A this.signature κs (q, (q′, (q″, tt))) a vals) (WpFn 𝓤 H (𝓣 .C) (𝓣 .Λ) code.function (w₀ ∷ vint w32 stored ∷ vint w32 sections ∷ sb ∷ sw ∷ []) Post₀)
     walk is pb pw =
         qed W (Tokens ∷ ‵ (owns (Sink κ ∷ u32 ∷ u32 ∷ Bytes κ′ ∷ ShrSlice (named 2) κ″ u32 ∷ []) a vals) ∷ []) ∵
         enter ! (𝓣 .C) (𝓣 .Λ) code.function (w₀ ∷ vint w32 stored ∷ vint w32 sections ∷ sb ∷ sw ∷ []) _ $
@@ -297,7 +299,7 @@ module _ {M : Type 1} (𝓤 : URA M) (H : Heap 𝓤) (A : Atoms 𝓤) (W : Given
         move ! (21 ∷ []) $ fsplit ! $ move ! (1 ∷ []) $ fsplit ! $ drop ! $ fsplit ! $ drop ! $ fsplit ! $ move ! (1 ∷ []) $ fsplit ! $
         -- [the words; nothing; the bytes; the sink; _9; …; the tokens]
         move ! (3 ∷ 24 ∷ 2 ∷ 0 ∷ []) $ move ! (4 ∷ []) $ drop ! $
-        body l₀ l₁ l₂ l₃ l₄ l₅ l₆ l₇ l₈ l₉ (record { i = 0; sink = h₀; w = w₀; within = omega arith; left = ap (added h₀) (sym (rest-start wordsPerSection st)); is = is })))))))))))
+        body Post₀ exits₀ l₀ l₁ l₂ l₃ l₄ l₅ l₆ l₇ l₈ l₉ (record { i = 0; sink = h₀; w = w₀; within = omega arith; left = ap (added h₀) (sym (rest-start wordsPerSection st)); is = is })))))))))))
 
 module _ {M : Type 1} (𝓤 : URA M) (H : Heap 𝓤) (A : Atoms 𝓤) (W : Given 𝓤 H A) (mem : Memory → SProp 𝓤) (run : Routine → Fun 𝓤) where
   add-sections-walks : (𝓣 : Tables 𝓤 H) → FmC 𝓤 H (W .laws) (𝓣 .C) → Triple 𝓤 (𝓣 .C section-words-def.name) (WordsC 𝓤 H A mem run) → Triple 𝓤 (𝓣 .C add-section-def.name) (SectionC 𝓤 H A)
