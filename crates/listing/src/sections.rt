@@ -9,12 +9,16 @@ use records::AsmSection;
 use records::Assembler;
 use records::SectionRead;
 use records::StoredSection;
+use records::form_of;
 use records::kind;
-use records::read_section;
+use records::set_size_of;
 use units::AsmBytesIdx;
 use units::AsmReference;
 use units::BytesSpan;
 use units::MarkId;
+use units::MarkReference;
+use units::MarkSpan;
+use units::form;
 ghost use mathlib.Core.Path.{_≡_};
 ghost use mathlib.Core.Bool.{false};
 ghost use Prim.Native.Nat.{_+_, _*_, _≤_};
@@ -22,7 +26,7 @@ ghost use lib.ListN.{length};
 ghost use Rattle.records.specs.Record.{directKind, readSection};
 ghost use Rattle.records.specs.Damage.{unreadable};
 ghost use Rattle.records.specs.Store.{wordsPerSection, wordsAt};
-ghost use Rattle.undamaged.specs.Section.{ReadIn};
+ghost use Rattle.undamaged.specs.Section.{ReadIn, marksOf};
 ghost use Rattle.listing.specs.Put.{Put, Room, wordsText, storeText, storeWith, Listable};
 ghost use Rattle.listing.specs.Sink.{added};
 
@@ -39,19 +43,33 @@ fn section_words(words: &[u32], i: u32) -> StoredSection
     }
 }
 
-// The reference that words of another kind than a mark, Ops or Data are read as. (Neither way out is ever taken.)
+// The marks that the words of a reference name.
+fn marks_in(section: StoredSection) -> MarkReference
+    ensures { λ r. ⌜ r ≡ marksOf section ⌝ }
+{
+    let first = MarkId(section.first);
+    if section.kind == kind::DIRECT {
+        return MarkReference::Direct(first);
+    }
+    MarkReference::Delta(MarkSpan {
+        start: first,
+        end: MarkId(section.second),
+    })
+}
+
+// The reference that words of another kind than a mark, Ops or Data are read as.
 fn reference_in(section: StoredSection) -> AsmReference
     requires { ⌜ (directKind ≤ section .kind) × (unreadable (readSection section) ≡ false) ⌝ }
     ensures { λ r. ⌜ readSection section ≡ SectionRead.Read (AsmSection.MarkRef r) ⌝ }
 {
-    let read = read_section(section);
-    let SectionRead::Read(section) = read else {
-        return AsmReference::new_direct(MarkId(0));
-    };
-    let AsmSection::MarkRef(reference) = section else {
-        return AsmReference::new_direct(MarkId(0));
-    };
-    reference
+    let form = form_of(section);
+    let mark_ref = marks_in(section);
+    let set_size = set_size_of(form % form::PUSHED);
+    AsmReference {
+        mark_ref,
+        set_size,
+        pushed: form::PUSHED <= form,
+    }
 }
 
 // Adds the lines of one section, from its words: a word becomes a mark or a byte position by the section's kind.

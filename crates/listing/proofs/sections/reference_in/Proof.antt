@@ -1,61 +1,25 @@
--- The words are read as a reference: neither way out is taken.
+-- The reference put together from the words is the one that they are read as.
 -- Assumes nothing.
 use borrow.Author.Needs.{needs}
-use Rattle.listing.proofs.SectionLines.{never-damaged, never-other, reads-reference}
+use Rattle.undamaged.proofs.Forms.{reference-of}
 use Rattle.listing.proofs.sections.reference_in.Statement.{statement}
 use Rattle.listing.proofs.sections.reference_in.Tie as tie
 
-read-section-requires : tie.Need-read-section-requires
-read-section-requires c κs = search needs
+form-of-requires : tie.Need-form-of-requires
+form-of-requires c κs = search needs
 
-enum-known-read : tie.Need-enum-known-read
-enum-known-read c = search needs
+marks-in-requires : tie.Need-marks-in-requires
+marks-in-requires c κs = search needs
 
-enum-told : tie.Need-enum-told
-enum-told c = search needs
-
-new-direct-requires : tie.Need-new-direct-requires
-new-direct-requires c κs = search needs
+set-size-of-requires : tie.Need-set-size-of-requires
+set-size-of-requires c κs = search needs
 
 returns : tie.Need-returns
 returns c =
-    let told = c .before in
-    let read = told .before .before in
-    let start = read .before in
-    absurd (never-damaged _ (start .pre .0) (start .pre .1) (read .read-section .ensures) (told .enum-told .given .1))
-
-enum-known-section : tie.Need-enum-known-section
-enum-known-section c = search needs
-
-new-direct-requires-2 : tie.Need-new-direct-requires-2
-new-direct-requires-2 c κs = search needs
-
-returns-2 : tie.Need-returns-2
-returns-2 c =
-    let other = c .before in
-    let told = other .before in
-    let read = told .before .before .before in
-    let start = read .before in
-    absurd (never-other _ (start .pre .0) (start .pre .1) (read .read-section .ensures) _ (told .before .read .given .1) (other .match2 .keys2))
-
-returns-3 : tie.Need-returns-3
-returns-3 c =
-    let is-reference = c .before in
-    let told = is-reference .before .before in
-    let read = told .before .before .before in
-    let start = read .before in
-    reads-reference _ (start .pre .0) (start .pre .1) (read .read-section .ensures) _ _ (told .before .read .given .1) (is-reference .section .given .1)
+    let marked = c .before in
+    let formed = marked .before in
+    let start = formed .before in
+    rw (c .set-size-of .ensures, marked .marks-in .ensures, formed .form-of .ensures) (reference-of _ (start .pre .0) (start .pre .1))
 
 pub reference-in-spec : {M : Type 1} → statement M
-reference-in-spec =
-    tie.close
-    (tie.spec
-    read-section-requires
-    enum-known-read
-    enum-told
-    new-direct-requires
-    returns
-    enum-known-section
-    new-direct-requires-2
-    returns-2
-    returns-3)
+reference-in-spec = tie.close (tie.spec form-of-requires marks-in-requires set-size-of-requires returns)
