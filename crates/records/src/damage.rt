@@ -223,6 +223,7 @@ fn span_misplaced(span: BytesSpan, previous_end: u32, is_last: bool, stored: u32
     if is_last { span.end.0 != stored } else { false }
 }
 
+// So of a section, which has bytes or not.
 fn is_misplaced(held: Held, previous_end: u32, is_last: bool, stored: u32) -> bool
     ensures { λ r. ⌜ r ≡ isMisplaced held «previous_end» «is_last» stored ⌝ }
 {

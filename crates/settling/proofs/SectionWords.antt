@@ -167,9 +167,13 @@ module _ (n : ℕ) (x : StoredSection) where
   unfolding shortWords
   short-first l h = rw (le-leb n (x .first) h, ne-eqb (x .kind) markKind (λ e. omega arith), lt-ltb dataKind (x .kind) l)
 
-  pub short-second : directKind ≤ x .kind → x .first < n → (leb n (x .second) && ltb directKind (x .kind)) ≡ shortWords n x
+  pub short-direct : x .kind ≡ directKind → x .first < n → false ≡ shortWords n x
   unfolding shortWords
-  short-second l h = rw (lt-leb n (x .first) h)
+  short-direct k h = rw (k, lt-leb n (x .first) h) (simp and-false)
+
+  pub short-second : directKind < x .kind → x .first < n → leb n (x .second) ≡ shortWords n x
+  unfolding shortWords
+  short-second l h = rw (lt-leb n (x .first) h, lt-ltb directKind (x .kind) l) (simp and-true)
 
 -- ---- marks in a table
 
