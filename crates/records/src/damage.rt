@@ -14,7 +14,7 @@ ghost use Prim.Native.Nat.{_+_, _*_, _≤_};
 ghost use lib.Dec.{ltb, eqb};
 ghost use lib.ListN.{length};
 ghost use Rattle.records.specs.Store.{storeOf, wordsPerSection, wordsAt, badCounts};
-ghost use Rattle.records.specs.Record.{readSection, maxMark};
+ghost use Rattle.records.specs.Record.{readSection, maxMark, markKind, directKind};
 ghost use Rattle.records.specs.Damage.{unreadable, isSpan, spansEnd, brokenReply, wholeSoundness, lastSoundness};
 ghost use Rattle.records.specs.Held.{heldBy, heldRead, endsElsewhere, spanMisplaced, isMisplaced, endAfter};
 
@@ -103,7 +103,8 @@ fn bytes_unheld(stored: u32, holders: u32) -> bool
     holders == 0
 }
 
-// The three words of section i.
+// The three words of section i. `settling`, `assembler` and `listing` have copies: a public one would test the index at each section,
+// which makes assembly 8 to 15 % slower and the listing 3 % (docs/DECISIONS.md, 49).
 fn section_words(words: &[u32], i: usize) -> StoredSection
     requires { ⌜ wordsPerSection * (i + 1) ≤ length (now words) ⌝ }
     ensures { λ r. ⌜ r ≡ wordsAt wordsPerSection (now (words .entry)) i ⌝ }
@@ -145,7 +146,7 @@ fn spans_end(store: Assembler, bytes: &[u8], words: &[u32]) -> u32
 
 // The greatest second word of a section without bytes, by its kind word.
 fn greatest_second(kind: u32) -> u32
-    ensures { λ r. ⌜ r ≡ cond (eqb kind 0) 0 (cond (eqb kind 3) 12 maxMark) ⌝ }
+    ensures { λ r. ⌜ r ≡ cond (eqb kind markKind) 0 (cond (eqb kind directKind) 12 maxMark) ⌝ }
 {
     if kind == kind::MARK {
         return 0;
