@@ -29,7 +29,7 @@ use Rattle.assembler.proofs.Places.{still-sum, sizes-five}
 use Rattle.assembler.specs.Assemble.{assembly}
 use Rattle.assembler.specs.AssemblyAnswers as answer
 use Rattle.assembler.specs.AssemblyAnswers.{AssemblyAnswer, assemblyReply, AnswerSays}
-use Rattle.assembler.proofs.Decoded.{stored-small}
+use Rattle.settling.proofs.Decoded.{stored-small}
 use Rattle.assembler.proofs.Laid.{laid, sound-settles}
 use Rattle.assembler.proofs.AssemblyAnswers.{assembly-answers, assembly-law}
 use Rattle.listing.specs.Listing.{listing}

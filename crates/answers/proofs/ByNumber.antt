@@ -10,6 +10,7 @@ use Rattle.layout.specs.Answer.{Laid}
 use Rattle.assembler.specs.Assemble.{Outcome, assembly}
 use Rattle.assembler.specs.Demand3.{Demand3}
 use Rattle.assembler.specs.Instructions.{CodePushes}
+use Rattle.assembler.specs.TightAssembly.{AssemblesWithin, AssemblesLeast}
 use Rattle.listing.specs.Answer.{listingReply, listingBuffer}
 use Rattle.numbers.specs.Numbers.{countsIn, storeIn}
 use Rattle.answers.specs.Numbers.{assembledNumber, listedNumber, AssembledPacks, ListedPacks}
@@ -28,7 +29,9 @@ module _ (bytes words table result : List ℕ) (position : ℕ) where
       × ((table′ ≡ of c .table)
       × ((result′ ≡ of c .result)
       × (Demand3 wordsPerSection (storeOf c bytes words) (length table) result position reply table′ result′
-      × CodePushes wordsPerSection (storeOf c bytes words) position reply table′ result′)))
+      × (CodePushes wordsPerSection (storeOf c bytes words) position reply table′ result′
+      × (AssemblesWithin wordsPerSection (storeOf c bytes words) (length table) result position reply
+      × AssemblesLeast wordsPerSection (storeOf c bytes words) reply table′)))))
 
   pub assembled-packs : (counts : Assembler) (reply : Reply Laid) → reply ≡ of counts .reply → AssembledPacks reply
   assembled-packs counts reply made = subst AssembledPacks (sym made) (assembly-packs wordsPerSection (storeOf counts bytes words) (length table) result position)
@@ -39,7 +42,9 @@ module _ (bytes words table result : List ℕ) (position : ℕ) where
       × ((table′ ≡ of (countsIn state) .table)
       × ((result′ ≡ of (countsIn state) .result)
       × (Demand3 wordsPerSection (storeIn state bytes words) (length table) result position (of (countsIn state) .reply) table′ result′
-      × CodePushes wordsPerSection (storeIn state bytes words) position (of (countsIn state) .reply) table′ result′)))
+      × (CodePushes wordsPerSection (storeIn state bytes words) position (of (countsIn state) .reply) table′ result′
+      × (AssemblesWithin wordsPerSection (storeIn state bytes words) (length table) result position (of (countsIn state) .reply)
+      × AssemblesLeast wordsPerSection (storeIn state bytes words) (of (countsIn state) .reply) table′)))))
   assembled-all state counts is reply table′ result′ made e =
       let all = subst (λ (c : Assembler). Assembles c reply table′ result′) is made in
       let named = subst (λ (x : Reply Laid). Assembles (countsIn state) x table′ result′) (all .0) all in

@@ -10,6 +10,7 @@ ghost use Rattle.records.specs.Store.{wordsPerSection};
 ghost use Rattle.assembler.specs.Assemble.{assembledReply, assembly};
 ghost use Rattle.assembler.specs.Demand3.{Demand3};
 ghost use Rattle.assembler.specs.Instructions.{CodePushes};
+ghost use Rattle.assembler.specs.TightAssembly.{AssemblesWithin, AssemblesLeast};
 ghost use Rattle.listing.specs.Answer.{listedReply, listingReply, listingBuffer};
 ghost use Rattle.numbers.specs.Numbers.{storeIn};
 ghost use Rattle.answers.specs.Numbers.{assembledNumber, listedNumber, AssembledPacks, ListedPacks};
@@ -39,6 +40,14 @@ pub fn assemble(
         (assembly wordsPerSection (storeIn state (now (bytes .entry)) (now (words .entry)))
         (length (now (table .entry))) (now (result .entry)) position .reply)
         (now (table .exit)) (now (result .exit)) ⌝ }
+    ensures within { λ _. ⌜ AssemblesWithin wordsPerSection (storeIn state (now (bytes .entry)) (now (words .entry)))
+        (length (now (table .entry))) (now (result .entry)) position
+        (assembly wordsPerSection (storeIn state (now (bytes .entry)) (now (words .entry)))
+        (length (now (table .entry))) (now (result .entry)) position .reply) ⌝ }
+    ensures least { λ _. ⌜ AssemblesLeast wordsPerSection (storeIn state (now (bytes .entry)) (now (words .entry)))
+        (assembly wordsPerSection (storeIn state (now (bytes .entry)) (now (words .entry)))
+        (length (now (table .entry))) (now (result .entry)) position .reply)
+        (now (table .exit)) ⌝ }
 {
     assembled_number(assembler::assemble(counts_in(state), bytes, words, table, result, position))
 }

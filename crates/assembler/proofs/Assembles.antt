@@ -20,10 +20,12 @@ use Rattle.assembler.specs.Emission.{codeOf}
 use Rattle.assembler.specs.Assemble.{written, Outcome, refusal, isFull, assembly}
 use Rattle.assembler.specs.Demand3.{Demand3}
 use Rattle.assembler.specs.Instructions.{CodePushes}
+use Rattle.assembler.specs.TightAssembly.{AssemblesWithin, AssemblesLeast}
 use Rattle.assembler.proofs.Laid.{refused-table, laid}
 use Rattle.assembler.proofs.Outcomes.{LaidBy, outcome-refused, outcome-full, outcome-written, fits-law}
 use Rattle.assembler.proofs.Demand3.{demand-3-assembly}
 use Rattle.assembler.proofs.Instructions.{assembly-pushes}
+use Rattle.assembler.proofs.TightAssembly.{assembly-within, assembly-least}
 
 module _ (w : ℕ) (st : Store) (n : ℕ) (result : List ℕ) (position : ℕ) where
   -- the contract, of an answer, a table and a result
@@ -33,7 +35,9 @@ module _ (w : ℕ) (st : Store) (n : ℕ) (result : List ℕ) (position : ℕ) w
       × ((table′ ≡ assembly w st n result position .table)
       × ((result′ ≡ assembly w st n result position .result)
       × (Demand3 w st n result position reply table′ result′
-      × CodePushes w st position reply table′ result′)))
+      × (CodePushes w st position reply table′ result′
+      × (AssemblesWithin w st n result position reply
+      × AssemblesLeast w st reply table′)))))
 
   -- an outcome that is the defined one keeps it
   kept : (o : Outcome) → assembly w st n result position ≡ o → Kept (o .reply) (o .table) (o .result)
@@ -45,7 +49,13 @@ module _ (w : ℕ) (st : Store) (n : ℕ) (result : List ℕ) (position : ℕ) w
         sym (ap (λ (x : Outcome). x .result) e),
         (
           subst (λ (x : Outcome). Demand3 w st n result position (x .reply) (x .table) (x .result)) e (demand-3-assembly w st n result position),
-          subst (λ (x : Outcome). CodePushes w st position (x .reply) (x .table) (x .result)) e (assembly-pushes w st n result position),
+          (
+            subst (λ (x : Outcome). CodePushes w st position (x .reply) (x .table) (x .result)) e (assembly-pushes w st n result position),
+            (
+              subst (λ (x : Outcome). AssemblesWithin w st n result position (x .reply)) e (assembly-within w st n result position),
+              subst (λ (x : Outcome). AssemblesLeast w st (x .reply) (x .table)) e (assembly-least w st n result position),
+            ),
+          ),
         ),
       ),
     ),

@@ -19,16 +19,17 @@ use Rattle.layout.specs.Conditions.{Premise}
 use Rattle.layout.specs.Answer.{laidOut, noLayout, tooNarrow as narrowRefusal}
 use Rattle.layout.specs.Shortest as list
 use Rattle.layout.proofs.Answers.{settle-law, answer-law}
+use Rattle.layout.proofs.Premises.{never-backward}
 use Rattle.layout.proofs.Demand3.{demand-3}
 use Rattle.records.specs.declared.damage.Soundness.the-variants.{Sound}
 use Rattle.settling.specs.Settle.{Settlement, settlement, settling}
-use Rattle.settling.proofs.Sections.{stored-is, never-backward}
+use Rattle.settling.proofs.Sections.{stored-is}
 use Rattle.assembler.specs.Emission.{codeOf, writtenLayout}
 use Rattle.assembler.proofs.Lengths.{written-settled}
 use Rattle.assembler.proofs.Places.{still-sum, sizes-five}
 use Rattle.assembler.specs.Assemble.{written, Outcome, assembly}
 use Rattle.assembler.specs.Demand3.{Given, Written, Shortest, Demand3}
-use Rattle.assembler.proofs.Decoded.{stored-small}
+use Rattle.settling.proofs.Decoded.{stored-small}
 use Rattle.assembler.proofs.Laid.{sound-settles, laid}
 use Rattle.assembler.proofs.Outcomes.{LaidBy, written-same, outcome-refused, outcome-written, fits-law}
 

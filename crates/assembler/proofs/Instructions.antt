@@ -15,7 +15,7 @@ use Rattle.assembler.proofs.Places.{still-sum, sizes-five}
 use Rattle.assembler.proofs.Pushes.{references-here}
 use Rattle.assembler.specs.Assemble.{Outcome, isFull, assembly}
 use Rattle.assembler.specs.Instructions.{CodePushes}
-use Rattle.assembler.proofs.Decoded.{stored-small}
+use Rattle.settling.proofs.Decoded.{stored-small}
 use Rattle.assembler.proofs.Laid.{laid}
 use Rattle.assembler.proofs.Outcomes.{LaidBy, outcome-cases, fits-law}
 

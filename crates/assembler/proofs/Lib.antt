@@ -4,11 +4,11 @@ pub mod Places
 pub mod Pushes
 pub mod SectionBytes
 pub mod Writes
-pub mod Decoded
 pub mod Outcomes
 pub mod Laid
 pub mod Demand3
 pub mod Instructions
+pub mod TightAssembly
 pub mod Copies
 pub mod AssemblyAnswers
 pub mod Assembles

@@ -48,7 +48,7 @@ module _ (w : ℕ) (st : Store) (n : ℕ) (result : List ℕ) (position : ℕ) w
   outcome-refused number i k e = ap (writing n result position (decode w st) (settling w n st .table)) e
 
   -- accepted, the settling laid out
-  laid-by : (l : Laid) → settling w n st .reply ≡ accepted l → LaidBy w n st (settling w n st .table) (l .length) (l .passes)
+  pub laid-by : (l : Laid) → settling w n st .reply ≡ accepted l → LaidBy w n st (settling w n st .table) (l .length) (l .passes)
   laid-by l e = ap (λ (r : Reply Laid). record { reply = r; table = settling w n st .table }) e
 
   module _ (table : List ℕ) (size k : ℕ) (e : LaidBy w n st table size k) where

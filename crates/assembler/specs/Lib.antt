@@ -7,3 +7,4 @@ pub mod Demand3
 pub mod Instructions
 pub mod Copies
 pub mod Writing
+pub mod TightAssembly

@@ -13,6 +13,7 @@ ghost use Rattle.records.specs.Store.{storeOf, wordsPerSection};
 ghost use Rattle.assembler.specs.Assemble.{assembledReply, isFull, assembly};
 ghost use Rattle.assembler.specs.Demand3.{Demand3};
 ghost use Rattle.assembler.specs.Instructions.{CodePushes};
+ghost use Rattle.assembler.specs.TightAssembly.{AssemblesWithin, AssemblesLeast};
 
 // Written: the code's length and the passes made; or a refusal, 6 to 13, with the table all 0 and the result unchanged.
 pub enum Assembled {
@@ -49,6 +50,12 @@ pub fn assemble(
     ensures pushes { λ r.
         ⌜ CodePushes wordsPerSection (storeOf store (now (bytes .entry)) (now (words .entry))) position
         (assembledReply r) (now (table .exit)) (now (result .exit)) ⌝ }
+    ensures within { λ r.
+        ⌜ AssemblesWithin wordsPerSection (storeOf store (now (bytes .entry)) (now (words .entry)))
+        (length (now (table .entry))) (now (result .entry)) position (assembledReply r) ⌝ }
+    ensures least { λ r.
+        ⌜ AssemblesLeast wordsPerSection (storeOf store (now (bytes .entry)) (now (words .entry)))
+        (assembledReply r) (now (table .exit)) ⌝ }
 {
     let settled = settle(store, bytes, words, table);
     match settled {

@@ -2,3 +2,5 @@ pub mod Lines
 pub mod Lists
 pub mod Shortest
 pub mod Exchanges
+pub mod TightExamples
+pub mod Line11

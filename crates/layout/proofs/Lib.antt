@@ -2,12 +2,15 @@ pub mod Runs
 pub mod Moves
 pub mod Rule
 pub mod WidthRule
+pub mod Near
+pub mod Rising
 pub mod Walks
 pub mod Layouts
 pub mod Least
 pub mod Premises
+pub mod Answers
 pub mod Settles
 pub mod Demand3
-pub mod Answers
+pub mod Tight
 pub mod Apart
 pub mod ConditionLaws

@@ -17,12 +17,14 @@ use Rattle.records.specs.Sections.{Section, mark, ops, bytes, reference}
 use Rattle.layout.specs.Layout.{HasValue}
 use Rattle.layout.specs.Passes.{valueBy}
 use Rattle.layout.specs.Conditions.{sectionAt, someBelow, Never, placesSome, someMark, refers, namesSome, placed, shortAt, unplacedAt, hasBytes, someBytes, bytesBetween, apartAt}
-use Rattle.layout.specs.Conditions.{sumOf, oneIfUnsized, storedBytes, references, passBound, isDelta, deltaAt, Premise}
+use Rattle.layout.specs.Conditions.{sumOf, oneIfUnsized, storedBytes, references, passBound, isDelta, deltaAt, backwardBy, backwardAt}
+use Rattle.layout.specs.Tight.{unsizedCount, PlainSections}
 use Rattle.layout.proofs.Runs.{TameRef, Tame, pass-mark, after, none}
 use Rattle.layout.proofs.Moves.{Still, Close, Together, widthBy}
 use Rattle.slices.proofs.Tests.{or-false}
 use Rattle.layout.proofs.Rule.{Sizes}
-use Rattle.layout.proofs.WidthRule.{growth, size-five, widthRule}
+use Rattle.layout.proofs.WidthRule.{growth, step, size-five, widthRule}
+use Rattle.layout.proofs.Rising.{growths, stepsOf}
 use Rattle.layout.proofs.Walks.{All, InTable}
 use Rattle.layout.proofs.Layouts.{Readable}
 use Rattle.layout.proofs.Least.{none-below}
@@ -111,26 +113,41 @@ together ss h = unparted-together ss (unparted ss h)
 
 -- ---- sums
 
--- what the references may grow by is 4 × A + 3 × B
+-- what a reference may grow by, of 4 × A + 3 × B
 growth-counts : (z : SetSize) (p : Bool) → growth z p ≡ 4 * oneIfUnsized p z + 3 * oneIfUnsized (not p) z
 growth-counts (Sized s) p = refl
 growth-counts Unsized true = refl
 growth-counts Unsized false = refl
 
+-- so all may grow by 4 × A + 3 × B
+pub growths-are : (ss : List Section) → growths widthRule ss ≡ passBound ss
+unfolding sumOf
+growths-are [] = refl
+growths-are (mark m ∷ ss) = omega (arith, growths-are ss)
+growths-are (ops bs ∷ ss) = omega (arith, growths-are ss)
+growths-are (bytes bs ∷ ss) = omega (arith, growths-are ss)
+growths-are (reference r ∷ ss) = omega (arith, growths-are ss, growth-counts (r .«set_size») (r .pushed))
+
+-- one step for an unsized reference, pushed or raw
+step-counts : (z : SetSize) (p : Bool) → step z ≡ oneIfUnsized p z + oneIfUnsized (not p) z
+step-counts (Sized s) p = refl
+step-counts Unsized true = refl
+step-counts Unsized false = refl
+
+-- so the steps of all are A + B
+pub steps-are : (ss : List Section) → stepsOf widthRule ss ≡ unsizedCount ss
+unfolding sumOf
+steps-are [] = refl
+steps-are (mark m ∷ ss) = omega (arith, steps-are ss)
+steps-are (ops bs ∷ ss) = omega (arith, steps-are ss)
+steps-are (bytes bs ∷ ss) = omega (arith, steps-are ss)
+steps-are (reference r ∷ ss) = omega (arith, steps-are ss, step-counts (r .«set_size») (r .pushed))
+
 -- the width of a reference at its widest
 abbrev pub most : AsmReference → ℕ
 most r = leastSize r + growth (r .«set_size») (r .pushed)
 
--- so at their widest they come to that more than at their least
-pub sum-growth : (ss : List Section) → sumOf (widthBy most) ss ≡ sumOf (widthBy leastSize) ss + passBound ss
-unfolding sumOf
-sum-growth [] = refl
-sum-growth (mark m ∷ ss) = omega (arith, sum-growth ss)
-sum-growth (ops bs ∷ ss) = omega (arith, sum-growth ss)
-sum-growth (bytes bs ∷ ss) = omega (arith, sum-growth ss)
-sum-growth (reference r ∷ ss) = omega (arith, sum-growth ss, growth-counts (r .«set_size») (r .pushed))
-
--- stored bytes and five for each reference
+-- at their widest, stored bytes and five for each reference
 pub sum-five : (ss : List Section) → sumOf (widthBy most) ss ≤ storedBytes ss + 5 * references ss
 unfolding sumOf
 sum-five [] = omega arith
@@ -161,6 +178,23 @@ pub readable : (t : ℕ → ℕ) (ss : List Section) → ((m : ℕ) → placed s
 unfolding unplacedAt deltaAt
 readable t ss h d q = all-at (Readable t) ss (λ i l. section-readable t (placed ss) (sectionAt ss i) h (d i l) (q i l))
 
+-- a direct reference is never backward
+direct-forward : (table : List ℕ) (r : MarkReference) → isDelta r ≡ false → backwardBy table r ≡ false
+direct-forward table (Direct m) h = refl
+direct-forward table (Delta d) h = absurd (true≢false h)
+
+-- so of a section
+section-forward : (table : List ℕ) (s : Section) → refers isDelta s ≡ false → refers (backwardBy table) s ≡ false
+section-forward table (mark m) h = refl
+section-forward table (ops bs) h = refl
+section-forward table (bytes bs) h = refl
+section-forward table (reference r) h = direct-forward table (r .«mark_ref») h
+
+-- so of a list
+pub never-backward : (table : List ℕ) (ss : List Section) → Never ss (deltaAt ss) → Never ss (backwardAt table ss)
+unfolding deltaAt backwardAt
+never-backward table ss h i l = section-forward table (sectionAt ss i) (h i l)
+
 -- ---- the premise
 
 -- a list of sections as the theory needs it
@@ -169,20 +203,18 @@ pub record Ready (n : ℕ) (ss : List Section) : Type 0 where
   pub tame : Tame (after ss none) none ss
   -- so no mark has bytes between two placings
   pub together : Together ss
-  pub few : passBound ss ≤ 1023
   pub small : storedBytes ss + 5 * references ss < 2 ^ 32
   -- offsets by which a pass stands still give values to a layout, if those of placed marks are below 2^32
   pub reads : (t : ℕ → ℕ) (e : ℕ) → Still (Sizes widthRule) ss 0 t e → ((m : ℕ) → placed ss m ≡ true → t m < 2 ^ 32) → All (Readable t) ss
 
--- demand 3's premise makes it so
-pub ready : {n : ℕ} {ss : List Section} → Premise n ss → Ready n ss
+-- demand 3's premises make it so, whatever A and B are
+pub ready : {n : ℕ} {ss : List Section} → PlainSections n ss → storedBytes ss + 5 * references ss < 2 ^ 32 → Ready n ss
 unfolding deltaAt
-ready {n} {ss} given =
+ready {n} {ss} plain small =
     record {
-      inTable = in-table n ss (given .inTable);
-      tame = tame-direct (after ss none) none ss (all-at (λ s. refers isDelta s ≡ false) ss (given .direct));
-      together = together ss (given .together);
-      few = given .few;
-      small = given .small;
-      reads = λ t e still h. readable t ss h (given .direct) (given .marksPlaced);
+      inTable = in-table n ss (plain .inTable);
+      tame = tame-direct (after ss none) none ss (all-at (λ s. refers isDelta s ≡ false) ss (plain .direct));
+      together = together ss (plain .together);
+      small = small;
+      reads = λ t e still h. readable t ss h (plain .direct) (plain .marksPlaced);
     }

@@ -1,5 +1,6 @@
--- The theory over any width rule: least sizes, sizes that grow with the value, at least the least and at most that and a growth, and the
--- widths that a layout may have, which are at least the size. What a pass keeps, and what it comes to. Assumes nothing.
+-- The theory over any width rule: least sizes, sizes that grow with the value, at least the least and at most that and a growth, by no
+-- more than a step while the value stays within a reach, and the widths that a layout may have, which are at least the size. What a pass
+-- keeps, and what it comes to. Assumes nothing.
 use Prim.Native.Nat.{ℕ, _+_, _-_, _≤_}
 use native.Mathlib.Omega.{arith}
 use mathlib.Core.Path.{_≡_, refl, subst}
@@ -17,6 +18,8 @@ pub record Rule : Type 1 where
   pub least : AsmReference → ℕ
   pub size : AsmReference → ℕ → ℕ
   pub growth : AsmReference → ℕ
+  pub step : AsmReference → ℕ
+  pub reach : ℕ
   -- the size has room for the value
   pub Fits : AsmReference → ℕ → Type 0
   -- a width that holds the value
@@ -24,6 +27,10 @@ pub record Rule : Type 1 where
   pub grows : (r : AsmReference) (v v′ : ℕ) → v ≤ v′ → size r v ≤ size r v′
   pub at-least : (r : AsmReference) (v : ℕ) → least r ≤ size r v
   pub at-most : (r : AsmReference) (v : ℕ) → size r v ≤ least r + growth r
+  pub least-pos : (r : AsmReference) → 1 ≤ least r
+  pub step-growth : (r : AsmReference) → step r ≤ growth r
+  -- to a value at most the reach greater, and 0 where the first is, one step at most
+  pub at-step : (r : AsmReference) (v v′ : ℕ) → v′ ≤ v + reach → (v ≡ 0 → v′ ≡ 0) → size r v′ ≤ size r v + step r
   -- no width below the size holds a value, and none where a lesser value had no room
   pub size-least : (r : AsmReference) (v w : ℕ) → Holds r v w → size r v ≤ w
   pub fits-below : (r : AsmReference) (v v′ w : ℕ) → v ≤ v′ → Holds r v′ w → Fits r v

@@ -1,18 +1,18 @@
 -- The definitions of Passes and Layout as runs: the start, a walk that goes through or is left, and a layout that gives enough.
 -- Assumes nothing.
-use Prim.Native.Nat.{ℕ, suc, _+_, _-_, _<_}
+use Prim.Native.Nat.{ℕ, zero, suc, _+_, _-_, _<_}
 use native.Mathlib.Omega.{arith}
 use mathlib.Core.Path.{_≡_, refl, sym, _∙_, ap, subst}
 use mathlib.Core.Bool.{Bool, true, false, cond, not, _||_}
 use mathlib.Core.List.{List, [], _∷_, _++_}
 use lib.Dec.{eqb, leb}
-use lib.ListN.{length, set, length-set}
+use lib.ListN.{length, set, length-set, replicate, length-replicate}
 use lib.Seq.{getD-set-same, getD-set-other, set-getD}
 use borrow.Author.Tests.{eqb-true, eq-eqb, leb-false, not-false}
 use Rattle.units.specs.Reference.{leastSize, size, tooNarrow}
 use Rattle.units.specs.declared.AsmReference.{AsmReference}
 use Rattle.records.specs.Sections.{Section, mark, ops, bytes, reference}
-use Rattle.layout.specs.Passes.{entry, valueBy, startFrom, through, leftAt, unlike, walkFrom}
+use Rattle.layout.specs.Passes.{entry, valueBy, startFrom, start, through, leftAt, unlike, walkFrom, pass}
 use Rattle.layout.specs.Conditions.{placesSome}
 use Rattle.layout.proofs.Runs.{Put, Run}
 use Rattle.layout.proofs.Moves.{Still, Rests}
@@ -67,6 +67,22 @@ start-run (bytes bs ∷ ss) s table k = start-run ss (s + length bs) table (k .1
 start-run (reference r ∷ ss) s table k =
     let q = start-run ss (s + leastSize r) table (k .1) in
     (q .0, (leastSize r, refl, q .1), q .2)
+
+-- the table starts at 0
+pub zeros : (n a : ℕ) → entry (replicate n 0) a ≡ 0
+zeros zero a = refl
+zeros (suc n) zero = refl
+zeros (suc n) (suc a) = zeros n a
+
+-- so the start is a run from 0
+pub start-runs : (n : ℕ) (ss : List Section) → InTable n ss
+    → (e : ℕ) × Run (Starts widthRule) ss 0 (entry (replicate n 0)) e (entry (start n ss)) × (length (start n ss) ≡ n)
+unfolding start
+start-runs n ss k =
+    let table : List ℕ = replicate n 0 in
+    let long : length table ≡ n = length-replicate n 0 in
+    let q = start-run ss 0 table (subst (λ (x : ℕ). InTable x ss) (sym long) k) in
+    (q .0, q .1, q .2 ∙ long)
 
 -- ---- a walk
 
@@ -148,6 +164,12 @@ walk-through (reference r ∷ ss) i s moved table e moved′ table′ k h =
           resting = q .resting;
           calm = λ c. let p = q .calm c in (p .0, p .1, (size r v, (refl, n), p .2));
         }
+
+-- so is a pass
+pub pass-through : (n : ℕ) (ss : List Section) (table : List ℕ) (e : ℕ) (moved : Bool) (next : List ℕ) → InTable n ss → length table ≡ n
+    → pass ss table ≡ through e moved next → Through ss 0 false table e moved next
+unfolding pass
+pass-through n ss table e moved next k long h = walk-through ss 0 0 false table e moved next (subst (λ (x : ℕ). InTable x ss) (sym long) k) h
 
 -- a walk that is left: the walk over the sections before goes through, and the next is a reference too narrow by the table as it is then
 pub record Left (ss : List Section) (i s : ℕ) (moved : Bool) (table : List ℕ) (j : ℕ) : Type 0 where

@@ -25,6 +25,15 @@ growth (Sized s) p = 0
 growth Unsized true = 4
 growth Unsized false = 3
 
+-- while its value grows by no more than the reach, one byte
+abbrev pub step : SetSize → ℕ
+step (Sized s) = 0
+step Unsized = 1
+
+-- from one bound of the held bytes, 256, to the next, 65,536
+abbrev pub reach : ℕ
+reach = 65280
+
 -- held bytes below each of the bounds
 abbrev Ranges : ℕ → Type 0
 Ranges v = (1 ≤ heldBytes v) × (v < 256 → heldBytes v ≤ 1) × (v < 65536 → heldBytes v ≤ 2) × (v < 16777216 → heldBytes v ≤ 3)
@@ -50,6 +59,18 @@ held-grows v v′ l =
     (λ g h k. omega (arith, held-2 v′ g h, ranges v .2 (omega arith)))
     (λ g h k. omega (arith, held-3 v′ g h, ranges v .3 (omega arith)))
     (λ g k. omega (arith, held-4 v′ g, held-le v))
+    l
+
+-- a value at most the reach greater is held in at most one byte more
+held-step : (v v′ : ℕ) → v′ ≤ v + reach → heldBytes v′ ≤ heldBytes v + 1
+held-step v v′ l =
+    by-range
+    (λ (x : ℕ). v′ ≤ x + reach → heldBytes v′ ≤ heldBytes x + 1)
+    v
+    (λ h k. omega (arith, held-1 v h, ranges v′ .2 (omega arith)))
+    (λ g h k. omega (arith, held-2 v g h, ranges v′ .3 (omega arith)))
+    (λ g h k. omega (arith, held-3 v g h, held-le v′))
+    (λ g k. omega (arith, held-4 v g, held-le v′))
     l
 
 -- ---- the laws of the rule, on a set size and whether the reference is pushed
@@ -85,6 +106,24 @@ width-most Unsized true v = go (eqb v 0)
     go : (q : Bool) → cond q 1 (heldBytes v + 1) ≤ 1 + 4
     go true = omega arith
     go false = omega (arith, held-le v)
+
+-- one step at most to a value that is 0 where the first is, and at most the reach greater
+width-step : (z : SetSize) (p : Bool) (v v′ : ℕ) → v′ ≤ v + reach → (v ≡ 0 → v′ ≡ 0) → width z p v′ ≤ width z p v + step z
+width-step (Sized s) p v v′ l z = omega arith
+width-step Unsized false v v′ l z = held-step v v′ l
+width-step Unsized true v v′ l z = go (eqb v 0) (eqb v′ 0) refl refl
+  where
+    go : (q q′ : Bool) → eqb v 0 ≡ q → eqb v′ 0 ≡ q′ → cond q′ 1 (heldBytes v′ + 1) ≤ cond q 1 (heldBytes v + 1) + 1
+    go true true e e′ = omega arith
+    go true false e e′ = absurd (eqb-false v′ 0 e′ (z (eqb-true v 0 e)))
+    go false true e e′ = omega arith
+    go false false e e′ = omega (arith, held-step v v′ l)
+
+-- a step is part of the growth
+pub step-growth : (z : SetSize) (p : Bool) → step z ≤ growth z p
+step-growth (Sized s) p = omega arith
+step-growth Unsized true = omega arith
+step-growth Unsized false = omega arith
 
 -- at most five bytes
 least-growth : (z : SetSize) (p : Bool) → least z p + growth z p ≤ 5
@@ -156,6 +195,11 @@ module _ (r : AsmReference) where
   unfolding size leastSize
   size-most = width-most (r .«set_size») (r .pushed)
 
+  -- one step at most to a value within the reach that is 0 where the first is
+  pub size-step : (v v′ : ℕ) → v′ ≤ v + reach → (v ≡ 0 → v′ ≡ 0) → size r v′ ≤ size r v + step (r .«set_size»)
+  unfolding size
+  size-step = width-step (r .«set_size») (r .pushed)
+
   -- at most any width that holds the value
   pub holds-size : (v w : ℕ) → HoldsIn (r .«set_size») (r .pushed) v w → size r v ≤ w
   unfolding size
@@ -192,11 +236,16 @@ widthRule =
       least = leastSize;
       size = size;
       growth = λ r. growth (r .«set_size») (r .pushed);
+      step = λ r. step (r .«set_size»);
+      reach = reach;
       Fits = λ r v. tooNarrow r v ≡ false;
       Holds = λ r v w. HoldsIn (r .«set_size») (r .pushed) v w;
       grows = size-grows;
       at-least = size-least;
       at-most = size-most;
+      least-pos = least-pos;
+      step-growth = λ r. step-growth (r .«set_size») (r .pushed);
+      at-step = size-step;
       size-least = holds-size;
       fits-below = holds-fits;
     }

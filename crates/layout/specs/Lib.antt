@@ -4,3 +4,4 @@ pub mod Conditions
 pub mod ConditionLaws
 pub mod Shortest
 pub mod Answer
+pub mod Tight

@@ -15,9 +15,8 @@ use Rattle.records.specs.Sections.{Section, mark, ops, bytes, reference}
 use Rattle.layout.specs.Passes.{entry, valueBy, startFrom, start, Walked, through, leftAt, unlike, walkFrom, pass, Settling, settled, narrowAt, unsettled, ended, passes, settle}
 use Rattle.layout.specs.Conditions.{sectionAt, placesSome, someMark, namesSome, placed, Never, unplacedAt}
 use Rattle.slices.proofs.Tests.{or-false}
-use Rattle.layout.proofs.Walks.{All, set-put, set-unlike}
+use Rattle.layout.proofs.Walks.{All, set-put, set-unlike, zeros}
 use Rattle.layout.proofs.Premises.{all-at}
-use Rattle.layout.proofs.Settles.{zeros}
 use Rattle.layout.proofs.Apart.{placed-law}
 
 -- ---- tables alike

@@ -5,6 +5,7 @@ ghost use Rattle.records.specs.Store.{wordsPerSection};
 ghost use Rattle.assembler.specs.Assemble.{assembly};
 ghost use Rattle.assembler.specs.Demand3.{Demand3};
 ghost use Rattle.assembler.specs.Instructions.{CodePushes};
+ghost use Rattle.assembler.specs.TightAssembly.{AssemblesWithin, AssemblesLeast};
 ghost use Rattle.listing.specs.Answer.{listingReply, listingBuffer};
 ghost use Rattle.numbers.specs.Numbers.{storeIn};
 ghost use Rattle.answers.specs.Numbers.{assembledNumber, listedNumber};
@@ -35,6 +36,14 @@ pub extern "C" fn sadrokki_assemble(
         (assembly wordsPerSection (storeIn state (now (bytes .entry)) (now (words .entry)))
         (length (now (table .entry))) (now (result .entry)) position .reply)
         (now (table .exit)) (now (result .exit)) ⌝ }
+    ensures within { λ _. ⌜ AssemblesWithin wordsPerSection (storeIn state (now (bytes .entry)) (now (words .entry)))
+        (length (now (table .entry))) (now (result .entry)) position
+        (assembly wordsPerSection (storeIn state (now (bytes .entry)) (now (words .entry)))
+        (length (now (table .entry))) (now (result .entry)) position .reply) ⌝ }
+    ensures least { λ _. ⌜ AssemblesLeast wordsPerSection (storeIn state (now (bytes .entry)) (now (words .entry)))
+        (assembly wordsPerSection (storeIn state (now (bytes .entry)) (now (words .entry)))
+        (length (now (table .entry))) (now (result .entry)) position .reply)
+        (now (table .exit)) ⌝ }
 {
     answers::assemble(state, bytes, words, table, result, position)
 }

@@ -4,3 +4,5 @@ pub mod Turns
 pub mod FirstPlacings
 pub mod StartTable
 pub mod SettleAnswers
+pub mod Decoded
+pub mod TightSettling

@@ -5,7 +5,7 @@ use native.Mathlib.Nat.{add-zero, zero-add, le-refl}
 use native.Mathlib.Numerals.{add-one}
 use native.Mathlib.Omega.{arith}
 use mathlib.Core.Path.{_≡_, refl, sym, ap, _∙_, subst}
-use mathlib.Core.Bool.{true, false, cond, true≢false}
+use mathlib.Core.Bool.{true, false, cond}
 use mathlib.Core.List.{List, [], _∷_, _++_}
 use lib.Dec.{ltb}
 use lib.ListN.{length, getD, take}
@@ -14,8 +14,6 @@ use borrow.Author.Tests.{ne-eqb}
 use Rattle.units.specs.Reference.{leastSize, size}
 use Rattle.units.proofs.Forms.{size-found}
 use Rattle.units.specs.declared.AsmReference.{AsmReference}
-use Rattle.units.specs.declared.MarkReference.{MarkReference}
-use Rattle.units.specs.declared.MarkReference.the-variants.{Direct, Delta}
 use Rattle.units.specs.declared.SizeFor.the-variants.{Bytes}
 use Rattle.records.specs.Record.{opsKind, dataKind, directKind}
 use Rattle.records.specs.Store.{Store, storeOf, wordsPerSection, wordsAt, sectionWords}
@@ -27,10 +25,11 @@ use Rattle.undamaged.specs.View.{Undamaged, Facts}
 use Rattle.undamaged.proofs.Soundness.{undamaged-iff}
 use Rattle.undamaged.proofs.Sections.{decode-snoc, span-stored}
 use Rattle.layout.specs.Passes.{valueBy}
-use Rattle.layout.specs.Conditions.{sectionAt, Never, refers, sumOf, storedIn, shortAt, isDelta, deltaAt, backwardBy, backwardAt, firstBackward}
+use Rattle.layout.specs.Conditions.{sectionAt, Never, sumOf, storedIn, shortAt, deltaAt, backwardAt, firstBackward}
 use Rattle.layout.proofs.Least.{never-law}
 use Rattle.layout.proofs.Moves.{widthBy}
 use Rattle.layout.proofs.Apart.{leastBefore}
+use Rattle.layout.proofs.Premises.{never-backward}
 use Rattle.layout.proofs.WidthRule.{widthRule, size-five}
 use Rattle.settling.specs.SectionWalk.{sectionsOf, Whole, Fitting, shortWords, MarksIn, backwardWords}
 use Rattle.settling.proofs.SectionWords.{Words, mark-words, ops-words, data-words, direct-words, delta-words, words-read, sizeSection, short-words, backward-words, delta-kind, marks-in}
@@ -190,22 +189,7 @@ pub delta-test : (ss : List Section) (i : ℕ) (x : StoredSection) → Turn ss i
 unfolding deltaAt
 delta-test ss i x t = delta-kind (t .words)
 
--- a direct reference isn't backward
-direct-forward : (table : List ℕ) (r : MarkReference) → isDelta r ≡ false → backwardBy table r ≡ false
-direct-forward table (Direct m) h = refl
-direct-forward table (Delta s) h = absurd (true≢false h)
-
-section-forward : (table : List ℕ) (s : Section) → refers isDelta s ≡ false → refers (backwardBy table) s ≡ false
-section-forward table (mark m) h = refl
-section-forward table (ops bs) h = refl
-section-forward table (bytes bs) h = refl
-section-forward table (reference r) h = direct-forward table (r .«mark_ref») h
-
--- so without a delta 12 is never said
-pub never-backward : (table : List ℕ) (ss : List Section) → Never ss (deltaAt ss) → Never ss (backwardAt table ss)
-unfolding deltaAt backwardAt
-never-backward table ss h i l = section-forward table (sectionAt ss i) (h i l)
-
+-- without a delta there is no 12
 pub none-backward : (table : List ℕ) (ss : List Section) → Never ss (deltaAt ss) → length ss ≡ firstBackward table ss
 unfolding firstBackward
 none-backward table ss h = sym (never-law ss (backwardAt table ss) .1 (never-backward table ss h))

@@ -1,2 +1,3 @@
 pub mod Settle
 pub mod SectionWalk
+pub mod TightSettling

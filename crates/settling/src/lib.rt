@@ -24,6 +24,7 @@ ghost use Rattle.layout.specs.Conditions.{Never, deltaAt};
 ghost use Rattle.layout.specs.Answer.{answer, answerReply, answerTable};
 ghost use Rattle.settling.specs.SectionWalk.{sectionsOf, Whole, Fitting, lessOne, settledAnswer};
 ghost use Rattle.settling.specs.Settle.{settling, settledReply};
+ghost use Rattle.settling.specs.TightSettling.{SettlesWithin, SettlesLeast};
 ghost use Rattle.settling.specs.declared.Settled.the-variants.{Refused};
 
 // Settled: the code's length in all and the passes made; or a refusal, 6 to 12, with the table all 0.
@@ -41,6 +42,12 @@ pub fn settle(store: Assembler, bytes: &[u8], words: &[u32], table: &mut [u32]) 
     ensures table { λ _.
         ⌜ now (table .exit)
         ≡ settling wordsPerSection (length (now (table .entry))) (storeOf store (now (bytes .entry)) (now (words .entry))) .table ⌝ }
+    ensures within { λ r.
+        ⌜ SettlesWithin wordsPerSection (storeOf store (now (bytes .entry)) (now (words .entry))) (length (now (table .entry)))
+        (settledReply r) ⌝ }
+    ensures least { λ r.
+        ⌜ SettlesLeast wordsPerSection (storeOf store (now (bytes .entry)) (now (words .entry)))
+        (settledReply r) (now (table .exit)) ⌝ }
 {
     clear(table); // on a 6 too
     match check_store(store, bytes, words) {

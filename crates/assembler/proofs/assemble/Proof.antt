@@ -28,7 +28,7 @@ laid-out : (c : tie.After-settled2)
 laid-out c =
     let settled = settled-of c in
     let s = start-of settled in
-    laid-table wordsPerSection (store-of s) _ (now (s .args .result)) (s .args .position) _ (settled .settle .ensures .0) (settled .settle .ensures .1) _ _ (c .settled2 .given .1)
+    laid-table wordsPerSection (store-of s) _ (now (s .args .result)) (s .args .position) _ (settled .settle .ensures .0) (settled .settle .ensures .1 .0) _ _ (c .settled2 .given .1)
 
 settle-requires : tie.Need-settle-requires
 settle-requires c κs = search needs
@@ -78,7 +78,7 @@ returns-2 c =
     let told = c .before in
     let settled = told .before .before .before .before in
     let s = start-of settled in
-    kept-refused wordsPerSection (store-of s) _ (now (s .args .result)) (s .args .position) _ (settled .settle .ensures .0) (settled .settle .ensures .1) _ (told .settled .given .1)
+    kept-refused wordsPerSection (store-of s) _ (now (s .args .result)) (s .args .position) _ (settled .settle .ensures .0) (settled .settle .ensures .1 .0) _ (told .settled .given .1)
 
 same-length-3 : tie.Need-same-length-3
 same-length-3 c =

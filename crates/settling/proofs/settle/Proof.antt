@@ -11,6 +11,7 @@ use Rattle.records.specs.Damage.{wholeSoundness}
 use Rattle.layout.specs.Answer.{answer, answerReply, answerTable}
 use Rattle.settling.specs.Settle.{Settlement}
 use Rattle.settling.proofs.SettleAnswers.{settles-as}
+use Rattle.settling.proofs.TightSettling.{settles-tight}
 use Rattle.settling.proofs.settle.Statement.{statement}
 use Rattle.settling.proofs.settle.Tie as tie
 
@@ -54,7 +55,9 @@ returns : tie.Need-returns
 returns c =
     let test = c .before .before .before in
     let is = settles-as wordsPerSection _ _ _ (tested test ∙ c .before .section .given .1) in
-    (ap (λ (s : Settlement). s .reply) (sym is), cleared test .clear .ensures ∙ ap (λ (s : Settlement). s .table) (sym is))
+    settles-tight wordsPerSection _ _
+    (ap (λ (s : Settlement). s .reply) (sym is))
+    (cleared test .clear .ensures ∙ ap (λ (s : Settlement). s .table) (sym is))
 
 same-length-2 : tie.Need-same-length-2
 same-length-2 c = search needs
@@ -66,10 +69,10 @@ returns-2 c =
     let test = told .before .before in
     let long = cleared test .clear .kept .0 in
     let ss = decode wordsPerSection (store-at (entry (cleared test))) in
-    let is = settles-as wordsPerSection _ _ _ (tested test ∙ told .enum-told .given .1) in (
-      settled .settle-whole .ensures .0 ∙ ap (λ (n : ℕ). answerReply (answer n ss)) long ∙ ap (λ (s : Settlement). s .reply) (sym is),
-      settled .settle-whole .ensures .1 ∙ ap (λ (n : ℕ). answerTable n (answer n ss)) long ∙ ap (λ (s : Settlement). s .table) (sym is),
-    )
+    let is = settles-as wordsPerSection _ _ _ (tested test ∙ told .enum-told .given .1) in
+    settles-tight wordsPerSection _ _
+    (settled .settle-whole .ensures .0 ∙ ap (λ (n : ℕ). answerReply (answer n ss)) long ∙ ap (λ (s : Settlement). s .reply) (sym is))
+    (settled .settle-whole .ensures .1 ∙ ap (λ (n : ℕ). answerTable n (answer n ss)) long ∙ ap (λ (s : Settlement). s .table) (sym is))
 
 pub settle-spec : {M : Type 1} → statement M
 settle-spec =
