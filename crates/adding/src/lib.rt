@@ -155,7 +155,7 @@ fn set_end(words: &mut [u32], sections: u32, end: u32)
     words[at] = end;
 }
 
-// Writes the words of the next section.
+// Writes the words of the next section. `short` has a copy (`append_words`): a public one would test the index.
 fn append_section(words: &mut [u32], sections: u32, kind: u32, first: u32, second: u32)
     requires { ⌜ wordsPerSection * (sections + 1) ≤ length (now words) ⌝ }
     ensures { λ _. ⌜ now (words .exit) ≡ over (now (words .entry)) (wordsPerSection * sections)

@@ -5,10 +5,11 @@ use Rattle.layout.specs.Answer.{Laid}
 use Rattle.numbers.specs.Numbers.{packed, midIn, lowIn, replyNumber, replyIn}
 use Rattle.numbers.specs.Packs.{Packs, ReplyPacks}
 
--- the answer to assembly: passes and length, or a refusal
+-- an accepted assembly: passes and length
 abbrev pub laidNumber : Laid → ℕ
 laidNumber laid = packed 0 (laid .passes) (laid .length)
 
+-- the answer to assembly: that, or a refusal
 abbrev pub assembledNumber : Reply Laid → ℕ
 assembledNumber r = replyNumber laidNumber r
 
@@ -16,25 +17,34 @@ assembledNumber r = replyNumber laidNumber r
 abbrev pub listedNumber : Reply ℕ → ℕ
 listedNumber r = replyNumber (λ size. size) r
 
--- answers that come back out of their number; every answer that is given does (proofs/Bounds)
+-- ---- answers that come back out of their number; every answer that is given does (proofs/Bounds)
+
+-- passes and length
 abbrev pub LaidPacks : Laid → Type 0
 LaidPacks laid = Packs 0 (laid .passes) (laid .length)
 
+-- an answer to assembly
 abbrev pub AssembledPacks : Reply Laid → Type 0
 AssembledPacks r = ReplyPacks LaidPacks r
 
+-- a text's length
 abbrev pub TextPacks : ℕ → Type 0
 TextPacks size = size < 2 ^ 56
 
+-- an answer to a listing
 abbrev pub ListedPacks : Reply ℕ → Type 0
 ListedPacks r = ReplyPacks TextPacks r
 
--- the reply that a number is
+-- ---- the reply that a number is
+
+-- the length and passes in it
 abbrev pub laidIn : ℕ → Laid
 laidIn answer = record { length = lowIn answer; passes = midIn answer }
 
+-- the reply to assembly
 abbrev pub assembledIn : ℕ → Reply Laid
 assembledIn answer = replyIn laidIn answer
 
+-- the reply to a listing
 abbrev pub listedIn : ℕ → Reply ℕ
 listedIn answer = replyIn (λ size. size) answer

@@ -139,6 +139,7 @@ extends kind (ops bs) = eqb kind opsKind
 extends kind (bytes bs) = eqb kind dataKind
 extends kind (reference r) = false
 
+-- what is added extends the last section, of which there is one; else 'a section is added'
 unfoldable pub joins : ℕ → Section → Store → Bool
 joins w s st = ltb 0 (st .sections) && extends (sectionWords w st (st .sections - 1) .kind) s
 
@@ -146,7 +147,7 @@ joins w s st = ltb 0 (st .sections) && extends (sectionWords w st (st .sections 
 abbrev pub recordWords : ℕ → StoredSection → List ℕ
 recordWords w r = r .kind ∷ r .first ∷ r .second ∷ replicate (w - 3) 0
 
--- one record appended, or the end (word 2) of the last record replaced, and the bytes appended
+-- the last section extended: the bytes appended, and its end (word 2) replaced
 abbrev pub joined : ℕ → Section → Store → Store
 joined w s st =
     record {
@@ -156,6 +157,7 @@ joined w s st =
       sections = st .sections;
     }
 
+-- a section added: the bytes appended, and one record
 abbrev pub appended : ℕ → Section → Store → Store
 appended w s st =
     record {
@@ -165,6 +167,7 @@ appended w s st =
       sections = st .sections + 1;
     }
 
+-- the store with what is added: 'op bytes extend a last Ops section, data a last Data section, else a section is added'
 unfoldable pub withSection : ℕ → Section → Store → Store
 withSection w s st = cond (joins w s st) (joined w s st) (appended w s st)
 
@@ -198,9 +201,11 @@ abbrev pub soundReply : Soundness → BuiltReply → BuiltReply
 soundReply (Damaged i) next = refused damaged i 0
 soundReply Sound next = next
 
+-- the answer to adding a section: 6, then 4, 5 or stored
 unfoldable pub addReply : ℕ → Section → Store → BuiltReply
 addReply w s st = soundReply (lastSoundness w st) (roomReply w s st)
 
+-- the answer to a call that adds to a store: 1, 2, 3, then that to adding its section
 unfoldable pub pushReply : ℕ → Push → Store → BuiltReply
 pushReply w p st =
     cond (hasBadDepth p) (refused badDepth 0 0)
@@ -208,27 +213,33 @@ pushReply w p st =
     (cond (hasLargeMark p) (refused largeMark 0 0)
     (addReply w (added p) st)))
 
--- ---- the store afterwards: refused, it is as it was
+-- ---- the store afterwards
 
+-- refused, it is as it was
 abbrev pub ifStored : BuiltReply → Store → Store → Store
 ifStored (accepted counts) new old = new
 ifStored (refused n i k) new old = old
 
+-- the store after adding a section
 unfoldable pub addAfter : ℕ → Section → Store → Store
 addAfter w s st = ifStored (addReply w s st) (withSection w s st) st
 
+-- the store after a call that adds to it
 unfoldable pub pushAfter : ℕ → Push → Store → Store
 pushAfter w p st = ifStored (pushReply w p st) (withSection w (added p) st) st
 
--- ---- any building call, and lists of them; `clear` takes any state, touches no slice and can't be refused
+-- ---- any building call, and lists of them
 
+-- `clear`: 'counts to 0, any state'; no slice is touched
 abbrev pub emptied : Store → Store
 emptied st = record { bytes = st .bytes; words = st .words; storedBytes = 0; sections = 0 }
 
+-- the answer to a building call; `clear` can't be refused
 abbrev pub callReply : ℕ → Call → Store → BuiltReply
 callReply w (push p) st = pushReply w p st
 callReply w clear st = accepted emptyCounts
 
+-- the store after a building call
 abbrev pub callAfter : ℕ → Call → Store → Store
 callAfter w (push p) st = pushAfter w p st
 callAfter w clear st = emptied st

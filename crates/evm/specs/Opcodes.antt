@@ -14,12 +14,14 @@ abbrev pub immediateBytes : PushSize → ℕ
 immediateBytes NoPush = 0
 immediateBytes (Bytes n) = n
 
--- SWAP1 is hex 90, DUP1 (depth 0) hex 80, PUSH0 hex 5f and PUSH1 to PUSH32 follow it
+-- SWAP1 is hex 90, SWAP2 to SWAP16 follow it
 abbrev pub swapOp : ℕ → ℕ
 swapOp depth = 0x8f + depth
 
+-- DUP1 (depth 0) is hex 80, DUP2 to DUP16 follow it
 abbrev pub dupOp : ℕ → ℕ
 dupOp depth = 0x80 + depth
 
+-- PUSH0 is hex 5f, PUSH1 to PUSH32 follow it
 abbrev pub pushOp : ℕ → ℕ
 pushOp size = 0x5f + size

@@ -126,6 +126,7 @@ pub record State : Type 0 where
   pub pc : ℕ
   pub stack : List ℕ
 
+-- the state with this program counter and this stack
 abbrev pub stateAt : ℕ → List ℕ → State
 stateAt pc stack = record { pc = pc; stack = stack }
 

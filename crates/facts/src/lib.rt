@@ -56,7 +56,7 @@ pub fn push_size(byte: u8) -> u32
     }
 }
 
-// The least number of bytes that hold a value, 1 to 4.
+// The bytes that hold a value, 1 to 4.
 pub fn bytes_to_hold(value: u32) -> u32
     ensures { λ r. ⌜ r ≡ heldBytes value ⌝ }
 {

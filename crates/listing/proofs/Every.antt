@@ -15,10 +15,11 @@ use Rattle.undamaged.specs.View.{Undamaged, Facts}
 use Rattle.undamaged.specs.Section.{ReadIn}
 use Rattle.undamaged.proofs.Soundness.{undamaged-iff}
 use Rattle.undamaged.proofs.Sections.{section-in, section-held}
-use Rattle.listing.specs.Put.{Put, Room, wordsText, Listable}
+use Rattle.listing.specs.Put.{Room, wordsText, Listable}
+use Rattle.listing.specs.Sink.{added}
+use Rattle.listing.specs.declared.sink.TextSink.{TextSink}
 use Rattle.listing.specs.Listing.{sectionText, listing}
-use Rattle.listing.proofs.Puts.{Left, left-step, left-room, left-done, room-first}
-use Rattle.listing.proofs.Turns.{left-is}
+use Rattle.listing.proofs.Puts.{added-none, added-append}
 use Rattle.listing.proofs.Lengths.{section-length}
 
 -- the sections from i on
@@ -52,21 +53,23 @@ module _ (w : ℕ) (st : Store) where
   unfolding decodeAt
   at-words i x e = ap (λ (y : StoredSection). sectionRead (st .bytes) (readSection y)) (sym e)
 
-  -- ---- what the code's turn asks
+  -- ---- what the code's turn asks. F is the sink at the end: adding what is left to the sink gives it, at every turn
+  module _ {F : TextSink} (h : TextSink) (i : ℕ) (left : added h (rest w st i) ≡ F) where
+    -- a section by its words x
+    module _ (l : i < st .sections) (x : StoredSection) (e : x ≡ sectionWords w st i) where
+      split : rest w st i ≡ wordsText (st .bytes) x ++ rest w st (i + 1)
+      split = rest-next i l ∙ ap (λ (y : Section). sectionText y ++ rest w st (i + 1)) (at-words i x e)
 
-  module _ {t now : List ℕ} {at here : ℕ} (i : ℕ) (h : i < st .sections) (x : StoredSection) (e : x ≡ sectionWords w st i) (l : Left t at (listing (decode w st)) now here (rest w st i)) where
-    -- what is left, its first section by its words
-    split : Left t at (listing (decode w st)) now here (wordsText (st .bytes) x ++ rest w st (i + 1))
-    split = left-is (rest-next i h ∙ ap (λ (y : Section). sectionText y ++ rest w st (i + 1)) (at-words i x e)) l
+      pub every-turn : {g : TextSink} → g ≡ added h (wordsText (st .bytes) x) → added g (rest w st (i + 1)) ≡ F
+      every-turn p =
+          ap (λ (k : TextSink). added k (rest w st (i + 1))) p ∙ added-append h (wordsText (st .bytes) x) (rest w st (i + 1)) ∙ ap (added h) (sym split) ∙ left
 
-    pub every-turn : {m : List ℕ} {r : ℕ} → Put now here (wordsText (st .bytes) x) r m → Left t at (listing (decode w st)) m r (rest w st (i + 1))
-    every-turn p = left-step (rest w st (i + 1)) split p
+      pub every-room : F .count < 2 ^ 64 → Room (h .count) (wordsText (st .bytes) x)
+      every-room fits =
+          record { fits = omega (arith, length-append (wordsText (st .bytes) x) (rest w st (i + 1)), ap length split, ap (λ (k : TextSink). k .count) left) }
 
-    pub every-room : Room at (listing (decode w st)) → Room here (wordsText (st .bytes) x)
-    every-room room = room-first here (wordsText (st .bytes) x) (rest w st (i + 1)) (left-room split room)
-
-  pub every-done : {t now : List ℕ} {at here : ℕ} (i : ℕ) → st .sections ≤ i → Left t at (listing (decode w st)) now here (rest w st i) → Put t at (listing (decode w st)) here now
-  every-done i h l = left-done (left-is (rest-none i h) l)
+    pub every-done : st .sections ≤ i → h ≡ F
+    every-done l = sym (added-none h) ∙ ap (added h) (sym (rest-none i l)) ∙ left
 
   -- ---- in an undamaged store
 

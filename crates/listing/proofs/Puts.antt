@@ -1,13 +1,17 @@
 -- Laws of putting text into a slice: two texts in a row are one, and a loop's walk, of which what is left equals the whole.
 -- Assumes nothing.
-use Prim.Native.Nat.{ℕ, suc, _+_, _≤_}
+use Prim.Native.Nat.{ℕ, suc, _+_, _-_, _≤_}
 use native.Mathlib.Omega.{arith}
 use native.Mathlib.Nat.{add-zero, add-suc, suc-add}
 use mathlib.Core.Path.{_≡_, refl, sym, ap, _∙_}
 use mathlib.Core.List.{List, [], _∷_, _++_}
 use lib.ListN.{length, set, length-append}
 use lib.Seq.{sets, length-sets, set-out}
+use borrow.Rule.Slice.PartMut.{midOf, mid-len, putMid, put-same}
+use denote.Ref.{now, at-last}
 use Rattle.listing.specs.Put.{Put, Room}
+use Rattle.listing.specs.Sink.{added}
+use Rattle.listing.specs.declared.sink.TextSink.{TextSink}
 
 -- a text after another
 sets-append : (x y t : List ℕ) (at : ℕ) → sets t at (x ++ y) ≡ sets (sets t at x) (at + length x) y
@@ -15,6 +19,20 @@ sets-append [] y t at = rw add-zero
 sets-append (a ∷ x) y t at =
     sets-append x y (set t at a) (suc at)
     ∙ ap (λ (n : ℕ). sets (sets (set t at a) (suc at) x) n y) (suc-add at (length x) ∙ sym (add-suc at (length x)))
+
+-- a text after another, added to a sink
+pub added-append : (h : TextSink) (x y : List ℕ) → added (added h x) y ≡ added h (x ++ y)
+added-append h x y = λ i. record { text = at-last (h .text) (texts i); count = counts i }
+  where
+    texts : sets (sets (now (h .text)) (h .count) x) (h .count + length x) y ≡ sets (now (h .text)) (h .count) (x ++ y)
+    texts = sym (sets-append x y (now (h .text)) (h .count))
+
+    counts : h .count + length x + length y ≡ h .count + length (x ++ y)
+    counts = omega (arith, length-append x y)
+
+-- nothing added
+pub added-none : (h : TextSink) → added h [] ≡ h
+added-none h = λ i. record { text = h .text; count = add-zero (h .count) i }
 
 -- nothing put
 pub put-none : (t : List ℕ) (at : ℕ) → Put t at [] at t
@@ -76,3 +94,13 @@ sets-out (a ∷ x) t at h = ap (λ (l : List ℕ). sets l (suc at) x) (set-out t
 -- a text past the slice's end is counted alone
 pub put-past : (t : List ℕ) (at : ℕ) (x : List ℕ) → length t ≤ at → Put t at x (at + length x) t
 put-past t at x h = record { count = refl; text = sym (sets-out x t at h) }
+
+-- a text that is put into the part of t past its end: its length is counted, and t is as it was
+pub put-end : (t : List ℕ) {m : List ℕ} {r : ℕ} {x : List ℕ} → let n = length t in
+    Put (midOf n (n - n) t) 0 x r m → (r ≡ length x) × (putMid n (n - n) t m ≡ t)
+put-end t {m} {r} {x} p =
+    let n : ℕ = length t in
+    let none : length (midOf n (n - n) t) ≤ 0 = omega (arith, mid-len n n t (omega arith)) in (
+      omega (arith, p .count),
+      ap (putMid n (n - n) t) (p .text ∙ sets-out x (midOf n (n - n) t) 0 none) ∙ put-same n (n - n) t,
+    )

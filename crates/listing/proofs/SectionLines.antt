@@ -1,29 +1,25 @@
 -- The text of a section of an undamaged store, by its kind word: one law for each way that the code goes. Assumes nothing.
-use Prim.Native.Nat.{ℕ, _≤_}
-use mathlib.Core.Path.{_≡_, sym, ap, _∙_, subst}
+use Prim.Native.Nat.{ℕ}
+use mathlib.Core.Path.{_≡_, ap, subst}
 use mathlib.Core.Bool.{false}
-use mathlib.Core.List.{List, [], _∷_}
+use mathlib.Core.List.{List}
 use lib.ListN.{length}
-use types.Run.{OneOf, miss}
-use denote.Enum.Declared.{tagOf}
 use Rattle.units.specs.declared.AsmReference.{AsmReference}
-use Rattle.records.specs.Record.{markKind, opsKind, dataKind, directKind, span, readSection}
+use Rattle.records.specs.Record.{markKind, opsKind, dataKind, span, readSection}
 use Rattle.records.specs.Damage.{unreadable}
 use Rattle.records.specs.Sections.{sectionRead}
-use Rattle.records.specs.declared.record.AsmSection.{AsmSection}
 use Rattle.records.specs.declared.record.AsmSection.the-variants.{MarkRef}
 use Rattle.records.specs.declared.record.SectionRead.{SectionRead}
-use Rattle.records.specs.declared.record.SectionRead.the-variants.{Read, Damaged}
+use Rattle.records.specs.declared.record.SectionRead.the-variants.{Read}
 use Rattle.records.specs.declared.record.StoredSection.{StoredSection}
-use Rattle.records.proofs.record.AsmSection.{the-type}
 use Rattle.undamaged.specs.Section.{spanBytes, SpanIn, ReadIn}
-use Rattle.undamaged.proofs.Reading.{reads, mark-read, ops-read, data-read, reference-read}
+use Rattle.undamaged.proofs.Reading.{reads, mark-read, ops-read, data-read}
 use Rattle.undamaged.proofs.Sections.{can-read}
 use Rattle.listing.specs.Listing.{markLine, opsLines, dataLine, referenceLine, sectionText}
 use Rattle.listing.specs.Put.{wordsText}
 
 module _ (bs : List ℕ) (x : StoredSection) (here : ReadIn (length bs) (readSection x)) where
-  readable : unreadable (readSection x) ≡ false
+  pub readable : unreadable (readSection x) ≡ false
   readable = can-read (length bs) (readSection x) here
 
   -- the text of what it is read as
@@ -39,16 +35,5 @@ module _ (bs : List ℕ) (x : StoredSection) (here : ReadIn (length bs) (readSec
   pub text-data : x .kind ≡ dataKind → SpanIn (length bs) (span (x .first) (x .second)) × (wordsText bs x ≡ dataLine (spanBytes bs (span (x .first) (x .second))))
   text-data k = let e = data-read (reads x) readable k in (subst (ReadIn (length bs)) e here, text-of _ e)
 
-  -- the other kinds are references
-  module _ (k : directKind ≤ x .kind) {v : SectionRead} (e : v ≡ readSection x) where
-    pub text-reference : (s : AsmSection) (r : AsmReference) → v ≡ Read s → s ≡ MarkRef r → wordsText bs x ≡ referenceLine r
-    text-reference s r i j = text-of _ (sym e ∙ i ∙ ap Read j)
-
-    pub never-damaged : v ≡ Damaged → ⊥
-    never-damaged i = subst (ReadIn (length bs)) (sym e ∙ i) here
-
-    pub never-other : (s : AsmSection) → v ≡ Read s → OneOf (0 ∷ 1 ∷ 2 ∷ []) (tagOf the-type s) → ⊥
-    never-other s i o =
-        let found = reference-read (reads x) readable k in
-        let same : s ≡ MarkRef (found .0) = cc in
-        miss (0 ∷ 1 ∷ 2 ∷ []) _ tt (subst (λ (y : AsmSection). OneOf (0 ∷ 1 ∷ 2 ∷ []) (tagOf the-type y)) same o)
+  pub text-reference : (r : AsmReference) → readSection x ≡ Read (MarkRef r) → wordsText bs x ≡ referenceLine r
+  text-reference r e = text-of _ e

@@ -8,7 +8,7 @@ mod text;
 use records::Assembler;
 use records::Soundness;
 use records::check_store;
-use sink::write_store;
+use sections::write_store;
 use units::Refusal;
 ghost use mathlib.Core.Path.{_≡_};
 ghost use lib.ListN.{length};
@@ -50,7 +50,7 @@ fn write_sound(store: Assembler, bytes: &[u8], words: &[u32], text: &mut [u8]) -
         ⌜ now (text .exit)
         ≡ listingBuffer wordsPerSection (storeOf store (now (bytes .entry)) (now (words .entry))) (now (text .entry)) ⌝ }
 {
-    let length = listing_length(store, bytes, words);
+    let length = listing_length(text, store, bytes, words);
     if text.len() < length {
         return Listed::Refused(Refusal::ListingFull);
     }
@@ -58,11 +58,12 @@ fn write_sound(store: Assembler, bytes: &[u8], words: &[u32], text: &mut [u8]) -
     Listed::Text(length)
 }
 
-// The listing's length: the same walk, on a slice that has no room.
-fn listing_length(store: Assembler, bytes: &[u8], words: &[u32]) -> usize
+// The listing's length: the same walk, on the part of the text that is past its end, where there is no room. The text is as it was.
+fn listing_length(text: &mut [u8], store: Assembler, bytes: &[u8], words: &[u32]) -> usize
     requires { ⌜ Undamaged wordsPerSection (storeOf store (now bytes) (now words)) ⌝ }
     ensures { λ r. ⌜ r ≡ length (storeText wordsPerSection (storeOf store (now (bytes .entry)) (now (words .entry)))) ⌝ }
+    ensures { λ _. ⌜ now (text .exit) ≡ now (text .entry) ⌝ }
 {
-    let mut none = [0u8; 0];
-    write_store(&mut none, store.bytes, store.sections, bytes, words)
+    let end = text.len();
+    write_store(&mut text[end..], store.bytes, store.sections, bytes, words)
 }

@@ -1,17 +1,27 @@
-// The text sink: a lent slice and the count of bytes written. The functions over it are walks of their MIR, by hand, and do nothing but
-// take it apart; the work is that of the covered core, on the slice and the number.
-use crate::sections::put_sections;
+// The text sink: a lent slice and the count of bytes written. Every line is added through it: an adder takes the sink and hands it back,
+// the line written and the count advanced. Each is thin over the covered function on the slice and the number, and its proof is a walk
+// of its MIR by hand (proofs/Adding, proofs/AddingFrom: one law for each of two signatures).
+use crate::lines::put_data_line;
+use crate::lines::put_mark_line;
+use crate::lines::put_reference_line;
+use crate::ops::put_ops_lines;
+use units::AsmReference;
+use units::BytesSpan;
+use units::MarkId;
 ghost use mathlib.Core.Path.{_≡_};
-ghost use Rattle.records.specs.Store.{wordsPerSection};
-ghost use Rattle.listing.specs.Put.{Put, Listable, storeText, storeWith};
+ghost use lib.ListN.{length};
+ghost use Rattle.undamaged.specs.Section.{spanBytes, SpanIn};
+ghost use Rattle.listing.specs.Put.{Room};
+ghost use Rattle.listing.specs.Sink.{added};
+ghost use Rattle.listing.specs.Listing.{markLine, dataLine, opsLines, referenceLine};
 
 pub struct TextSink<'a> {
-    text: &'a mut [u8],
-    count: usize,
+    pub(crate) text: &'a mut [u8],
+    pub(crate) count: usize,
 }
 
 // The slice goes into the sink, and nothing is written yet.
-fn new<'a>(text: &'a mut [u8]) -> TextSink<'a>
+pub(crate) fn new<'a>(text: &'a mut [u8]) -> TextSink<'a>
     ensures { λ r. ⌜ (r .text ≡ text .entry) × (r .count ≡ 0) ⌝ }
 {
     TextSink {
@@ -20,36 +30,62 @@ fn new<'a>(text: &'a mut [u8]) -> TextSink<'a>
     }
 }
 
-// Adds the lines of every section of a store, and answers the count written.
-fn add_store<'a, 'b, 'c>(
-    sink: TextSink<'a>,
-    stored: u32,
-    sections: u32,
-    bytes: &'b [u8],
-    words: &'c [u32],
-) -> usize
-    requires { ⌜ Listable wordsPerSection (storeWith stored sections (now bytes) (now words)) (sink .count) ⌝ }
-    ensures { λ r.
-        ⌜ Put (now (sink .entry .text)) (sink .entry .count)
-        (storeText wordsPerSection (storeWith stored sections (now (bytes .entry)) (now (words .entry)))) r (now (sink .exit .0)) ⌝ }
+// Adds `.mark7:`.
+pub(crate) fn add_mark_line<'a>(sink: TextSink<'a>, mark: MarkId) -> TextSink<'a>
+    requires { ⌜ Room (sink .count) (markLine (mark .0)) ⌝ }
+    ensures { λ r. ⌜ r ≡ added (sink .entry) (markLine (mark .0)) ⌝ }
 {
     let at = sink.count;
-    put_sections(&mut *sink.text, at, stored, sections, bytes, words)
+    let next = put_mark_line(&mut *sink.text, at, mark);
+    TextSink {
+        text: sink.text,
+        count: next,
+    }
 }
 
-// The lines of every section of a store, added to a sink over the text.
-pub(crate) fn write_store(
-    text: &mut [u8],
-    stored: u32,
-    sections: u32,
-    bytes: &[u8],
-    words: &[u32],
-) -> usize
-    requires { ⌜ Listable wordsPerSection (storeWith stored sections (now bytes) (now words)) 0 ⌝ }
-    ensures { λ r.
-        ⌜ Put (now (text .entry)) 0
-        (storeText wordsPerSection (storeWith stored sections (now (bytes .entry)) (now (words .entry)))) r (now (text .exit)) ⌝ }
+// Adds `  data 0xaabb (2 bytes)`.
+pub(crate) fn add_data_line<'a, 'b>(
+    sink: TextSink<'a>,
+    bytes: &'b [u8],
+    span: BytesSpan,
+) -> TextSink<'a>
+    requires { ⌜ SpanIn (length (now bytes)) span × Room (sink .count) (dataLine (spanBytes (now bytes) span)) ⌝ }
+    ensures { λ r. ⌜ r ≡ added (sink .entry) (dataLine (spanBytes (now (bytes .entry)) span)) ⌝ }
 {
-    let sink = new(text);
-    add_store(sink, stored, sections, bytes, words)
+    let at = sink.count;
+    let next = put_data_line(&mut *sink.text, at, bytes, span);
+    TextSink {
+        text: sink.text,
+        count: next,
+    }
+}
+
+// Adds the lines of an Ops section, one for each instruction.
+pub(crate) fn add_ops_lines<'a, 'b>(
+    sink: TextSink<'a>,
+    bytes: &'b [u8],
+    span: BytesSpan,
+) -> TextSink<'a>
+    requires { ⌜ SpanIn (length (now bytes)) span × Room (sink .count) (opsLines (spanBytes (now bytes) span)) ⌝ }
+    ensures { λ r. ⌜ r ≡ added (sink .entry) (opsLines (spanBytes (now (bytes .entry)) span)) ⌝ }
+{
+    let at = sink.count;
+    let next = put_ops_lines(&mut *sink.text, at, bytes, span);
+    TextSink {
+        text: sink.text,
+        count: next,
+    }
+}
+
+// Adds `  PUSH .mark1` or `  RAW (.mark1 - .mark0):2`.
+pub(crate) fn add_reference_line<'a>(sink: TextSink<'a>, reference: AsmReference) -> TextSink<'a>
+    requires { ⌜ Room (sink .count) (referenceLine reference) ⌝ }
+    ensures { λ r. ⌜ r ≡ added (sink .entry) (referenceLine reference) ⌝ }
+{
+    let at = sink.count;
+    let next = put_reference_line(&mut *sink.text, at, reference);
+    TextSink {
+        text: sink.text,
+        count: next,
+    }
 }

@@ -60,7 +60,7 @@ pub record Named (n : ℕ) : Type 0 where
 
 module _ (n : ℕ) where
   -- a number that names nothing
-  form-nothing : isForm n ≡ false → formOf n ≡ Nothing
+  pub form-nothing : isForm n ≡ false → formOf n ≡ Nothing
   unfolding formOf
   form-nothing e =
       let both = or-false (leb n 4) (leb 8 n && leb n 12) .0 e in

@@ -22,13 +22,15 @@ use Rattle.numbers.specs.Numbers.{packed, namesNothing, builtNumber}
 unfoldable pub formOf : ℕ → Form
 formOf n = cond (leb n 4) (Names (setSizeOf n) false) (cond (leb 8 n && leb n 12) (Names (setSizeOf (n - 8)) true) Nothing)
 
--- a mark's offset; one mark's offset minus another's; and either in a form
+-- 'direct (one mark)'
 abbrev pub direct : ℕ → MarkReference
 direct mark = Direct (record { 0 = mark })
 
+-- 'a delta (end mark's offset minus start mark's)'
 abbrev pub delta : ℕ → ℕ → MarkReference
 delta start end = Delta (record { start = record { 0 = start }; end = record { 0 = end } })
 
+-- either in a form
 abbrev pub formed : MarkReference → SetSize → Bool → AsmReference
 formed m s p = record { «mark_ref» = m; «set_size» = s; pushed = p }
 
@@ -47,7 +49,7 @@ abbrev pub sizeNumber : SizeFor → ℕ
 sizeNumber (Bytes n) = packed 0 0 n
 sizeNumber TooNarrow = packed tooNarrow 0 0
 
--- the size of a form for a value; no size depends on the marks (proofs/Answers, `size-any-mark`)
+-- the size of a form for a value; no size depends on the marks (`size-any-mark`, proofs/Forms)
 abbrev pub sizeForNumber : Form → ℕ → ℕ
 sizeForNumber (Names s p) v = sizeNumber (sizeFor (formed (direct 0) s p) v)
 sizeForNumber Nothing v = namesNothing
@@ -57,10 +59,10 @@ abbrev pub leastSizeNumber : Form → ℕ
 leastSizeNumber (Names s p) = packed 0 0 (leastSize (formed (direct 0) s p))
 leastSizeNumber Nothing = namesNothing
 
--- a form that names something
+-- a form that names something: `formOf` answers `Names` exactly for these (`form-named`, `form-nothing`, proofs/Forms)
 abbrev pub isForm : ℕ → Bool
 isForm n = leb n 4 || leb 8 n && leb n 12
 
--- the kind word of a delta of such a form
+-- the kind word of a delta of such a form: that of the set size and pushed bit which `formOf` names (`delta-formed`, proofs/Forms)
 abbrev pub formKind : ℕ → ℕ
 formKind n = cond (ltb n 8) (n + rawDeltaKind) (n - 8 + pushedDeltaKind)

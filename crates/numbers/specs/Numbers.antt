@@ -15,13 +15,15 @@ use Rattle.calls.specs.Calls.{BuiltReply}
 abbrev pub packed : ℕ → ℕ → ℕ → ℕ
 packed number mid low = number * 2 ^ 56 + mid * 2 ^ 32 + low
 
--- what comes back out of it
+-- its first part comes back out
 abbrev pub numberIn : ℕ → ℕ
 numberIn answer = answer / 2 ^ 56
 
+-- its middle part
 abbrev pub midIn : ℕ → ℕ
 midIn answer = answer / 2 ^ 32 % 2 ^ 24
 
+-- its last part
 abbrev pub lowIn : ℕ → ℕ
 lowIn answer = answer % 2 ^ 32
 
@@ -37,7 +39,8 @@ storeIn state bytes words = storeOf (countsIn state) bytes words
 abbrev pub namesNothing : ℕ
 namesNothing = packed 255 0 0
 
--- an answer: what is accepted as a number; or number, passes and section of a refusal
+-- an answer: what is accepted as a number; or number, passes and section of a refusal, in this order (in a `Reply` the section comes before
+-- the passes)
 abbrev pub replyNumber : {A : Type 0} → (A → ℕ) → Reply A → ℕ
 replyNumber given (accepted x) = given x
 replyNumber given (refused number section passes) = packed number passes section
@@ -59,5 +62,6 @@ abbrev pub replyIn : {A : Type 0} → (ℕ → A) → ℕ → Reply A
 replyIn given answer =
     cond (eqb (numberIn answer) 0) (accepted (given answer)) (refused (numberIn answer) (lowIn answer) (midIn answer))
 
+-- the reply to a building call that a number is
 abbrev pub builtIn : ℕ → BuiltReply
 builtIn answer = replyIn countsIn answer

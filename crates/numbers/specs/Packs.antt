@@ -13,8 +13,10 @@ abbrev pub ReplyPacks : {A : Type 0} → (A → Type 0) → Reply A → Type 0
 ReplyPacks fits (accepted x) = fits x
 ReplyPacks fits (refused number section passes) = (1 ≤ number) × Packs number passes section
 
+-- counts that come back out of their state
 abbrev pub CountsPack : Assembler → Type 0
 CountsPack counts = Packs 0 (counts .sections) (counts .bytes)
 
+-- a reply to a building call that comes back out of its number
 abbrev pub BuiltPacks : BuiltReply → Type 0
 BuiltPacks r = ReplyPacks CountsPack r

@@ -64,6 +64,7 @@ wholeSoundness w st = cond (badCount w st) (Soundness.Damaged 0) (brokenReply w 
 abbrev pub brokenLast : StoredSection → ℕ → Bool
 brokenLast r stored = unreadable (readSection r) || isSpan (r .kind) && not (eqb (r .second) stored)
 
+-- so of section i of a store, which is the last where this is asked
 unfoldable pub lastBroken : ℕ → Store → ℕ → Bool
 lastBroken w st i = brokenLast (sectionWords w st i) (st .storedBytes)
 

@@ -49,10 +49,11 @@ setSizeOf n = cond (eqb n 0) Unsized (cond (eqb n 1) (Sized S1) (cond (eqb n 2) 
 unfoldable pub readMark : ℕ → ℕ → SectionRead
 readMark a b = cond (leb a maxMark && eqb b 0) (Read (Mark (record { 0 = a }))) Damaged
 
--- Ops and Data: start, end, the start at most the end
+-- Ops and Data: start, end
 abbrev pub span : ℕ → ℕ → BytesSpan
 span a b = record { start = record { 0 = a }; end = record { 0 = b } }
 
+-- Ops or Data, read; 'or exceeds its end' is damaged
 unfoldable pub readSpan : (BytesSpan → AsmSection) → ℕ → ℕ → SectionRead
 readSpan kind a b = cond (leb a b) (Read (kind (span a b))) Damaged
 
@@ -89,11 +90,12 @@ abbrev pub deltaKind : Bool → ℕ
 deltaKind true = pushedDeltaKind
 deltaKind false = rawDeltaKind
 
--- the words of a reference
+-- the words of a reference, by its marks, its set size and whether it is pushed
 abbrev pub wordsOfRef : MarkReference → SetSize → Bool → StoredSection
 wordsOfRef (Direct m) s p = record { kind = directKind; first = m .0; second = sizeNumber s + pushedNumber p }
 wordsOfRef (Delta d) s p = record { kind = sizeNumber s + deltaKind p; first = d .start .0; second = d .end .0 }
 
+-- a reference put into words: 'Direct: number, then set size (0 unsized) plus 8 if pushed. Delta: start mark, end mark'
 unfoldable pub referenceWords : AsmReference → StoredSection
 referenceWords r = wordsOfRef (r .«mark_ref») (r .«set_size») (r .pushed)
 

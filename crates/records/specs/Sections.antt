@@ -15,6 +15,7 @@ use Rattle.records.specs.declared.record.SectionRead.the-variants.{Read,
 pub data Section : Type 0 where
   mark : ℕ → Section
   ops : List ℕ → Section
+  -- Data
   bytes : List ℕ → Section
   reference : AsmReference → Section
 

@@ -27,6 +27,7 @@ pub record Store : Type 0 where
   pub storedBytes : ℕ
   pub sections : ℕ
 
+-- the store of two counts and two lent slices: 'two counts .. over a lent byte slice and a lent slice of 32-bit words'
 abbrev pub storeOf : Assembler → List ℕ → List ℕ → Store
 storeOf counts bytes words = record { bytes = bytes; words = words; storedBytes = counts .bytes; sections = counts .sections }
 
@@ -42,6 +43,7 @@ emptyCounts = record { bytes = 0; sections = 0 }
 abbrev pub wordsAt : ℕ → List ℕ → ℕ → StoredSection
 wordsAt w words i = record { kind = getD words (w * i) 0; first = getD words (w * i + 1) 0; second = getD words (w * i + 2) 0 }
 
+-- 'three words a section': those of section i of a store
 abbrev pub sectionWords : ℕ → Store → ℕ → StoredSection
 sectionWords w st i = wordsAt w (st .words) i
 

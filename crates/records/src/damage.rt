@@ -1,7 +1,10 @@
 // The tests for number 6: the whole store's, and the lesser one of a building call.
 use crate::Assembler;
 use crate::kind;
+use crate::record::AsmSection;
+use crate::record::SectionRead;
 use crate::record::StoredSection;
+use crate::record::read_section;
 use units::AsmBytesIdx;
 use units::BytesSpan;
 use units::form;
@@ -11,9 +14,9 @@ ghost use Prim.Native.Nat.{_+_, _*_, _≤_};
 ghost use lib.Dec.{ltb, eqb};
 ghost use lib.ListN.{length};
 ghost use Rattle.records.specs.Store.{storeOf, wordsPerSection, wordsAt, badCounts};
-ghost use Rattle.records.specs.Record.{readSection, maxMark};
+ghost use Rattle.records.specs.Record.{readSection, maxMark, markKind, directKind};
 ghost use Rattle.records.specs.Damage.{unreadable, isSpan, spansEnd, brokenReply, wholeSoundness, lastSoundness};
-ghost use Rattle.records.specs.Held.{heldRead, endsElsewhere, spanMisplaced, isMisplaced, endAfter};
+ghost use Rattle.records.specs.Held.{heldBy, heldRead, endsElsewhere, spanMisplaced, isMisplaced, endAfter};
 
 // Sound, or the section that number 6 reports.
 pub enum Soundness {
@@ -63,11 +66,11 @@ pub fn check_last(store: Assembler, bytes: &[u8], words: &[u32]) -> Soundness
         return Soundness::Sound;
     }
     let last = sections - 1;
-    let read = read_held(section_words(words, last as usize));
-    let HeldRead::Read(held) = read else {
+    let read = read_section(section_words(words, last as usize));
+    let SectionRead::Read(section) = read else {
         return Soundness::Damaged(last);
     };
-    if ends_elsewhere(held, store.bytes) {
+    if ends_elsewhere(held_by(section), store.bytes) {
         Soundness::Damaged(last)
     } else {
         Soundness::Sound
@@ -100,7 +103,8 @@ fn bytes_unheld(stored: u32, holders: u32) -> bool
     holders == 0
 }
 
-// The three words of section i.
+// The three words of section i. `settling`, `assembler` and `listing` have copies: a public one would test the index at each section,
+// which makes assembly 8 to 15 % slower and the listing 3 % (docs/DECISIONS.md, 49).
 fn section_words(words: &[u32], i: usize) -> StoredSection
     requires { ⌜ wordsPerSection * (i + 1) ≤ length (now words) ⌝ }
     ensures { λ r. ⌜ r ≡ wordsAt wordsPerSection (now (words .entry)) i ⌝ }
@@ -142,7 +146,7 @@ fn spans_end(store: Assembler, bytes: &[u8], words: &[u32]) -> u32
 
 // The greatest second word of a section without bytes, by its kind word.
 fn greatest_second(kind: u32) -> u32
-    ensures { λ r. ⌜ r ≡ cond (eqb kind 0) 0 (cond (eqb kind 3) 12 maxMark) ⌝ }
+    ensures { λ r. ⌜ r ≡ cond (eqb kind markKind) 0 (cond (eqb kind directKind) 12 maxMark) ⌝ }
 {
     if kind == kind::MARK {
         return 0;
@@ -188,6 +192,18 @@ fn read_held(section: StoredSection) -> HeldRead
     }
 }
 
+// What a section holds of the bytes.
+fn held_by(section: AsmSection) -> Held
+    ensures { λ r. ⌜ r ≡ heldBy section ⌝ }
+{
+    match section {
+        AsmSection::Mark(_) => Held::Nothing,
+        AsmSection::Ops(span) => Held::Bytes(span),
+        AsmSection::Data(span) => Held::Bytes(span),
+        AsmSection::MarkRef(_) => Held::Nothing,
+    }
+}
+
 // A section with bytes that ends elsewhere than at the stored count.
 fn ends_elsewhere(held: Held, stored: u32) -> bool
     ensures { λ r. ⌜ r ≡ endsElsewhere held stored ⌝ }
@@ -208,6 +224,7 @@ fn span_misplaced(span: BytesSpan, previous_end: u32, is_last: bool, stored: u32
     if is_last { span.end.0 != stored } else { false }
 }
 
+// So of a section, which has bytes or not.
 fn is_misplaced(held: Held, previous_end: u32, is_last: bool, stored: u32) -> bool
     ensures { λ r. ⌜ r ≡ isMisplaced held «previous_end» «is_last» stored ⌝ }
 {

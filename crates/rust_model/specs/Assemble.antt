@@ -98,6 +98,7 @@ walkFrom build (s ∷ ss) i current w =
 
 -- ---- `converge_mark_offsets`
 
+-- `Ok`, with the table as it is left, or `Err(AssembleError::RefHasTooSmallSetSize(i))`
 pub data Converged : Type 0 where
   ok : List ℕ → Converged
   refHasTooSmallSetSize : ℕ → Converged
@@ -107,6 +108,7 @@ abbrev pub decide : (List ℕ → Run Converged) → Bool → List ℕ → Run C
 decide next true table = done (ok table)
 decide next false table = next table
 
+-- what comes after a walk; `?` hands its error on
 abbrev pub afterWalk : (List ℕ → Run Converged) → Walked → Run Converged
 afterWalk next (walked w) = decide next (w .converged) (w .table)
 afterWalk next (tooSmall i) = done (refHasTooSmallSetSize i)
@@ -179,12 +181,14 @@ emitFrom bytes table (s ∷ ss) result =
 
 -- ---- `assemble`
 
+-- how it ends, where it doesn't panic
 pub data Assembled : Type 0 where
   -- `Ok`: the offset table returned, and the result
   assembled : List ℕ → List ℕ → Assembled
   -- `Err(AssembleError::RefHasTooSmallSetSize(i))`
   tooSmallSetSize : ℕ → Assembled
 
+-- what comes after `converge_mark_offsets`; `?` hands its error on
 abbrev pub emission : Assembler → List ℕ → Converged → Run Assembled
 emission a result (ok table) = andThen (emitFrom (a .bytes) table (iterSections a) result) (λ result′. done (assembled table result′))
 emission a result (refHasTooSmallSetSize i) = done (tooSmallSetSize i)

@@ -43,6 +43,7 @@ pub record Assembler : Type 0 where
   pub bytes : List ℕ
   pub sections : List StoredAsmSection
 
+-- `Assembler` without bytes or sections, as `with_capacity` makes it and `clear` leaves it
 abbrev pub empty : Assembler
 empty = record { bytes = []; sections = [] }
 
@@ -81,10 +82,12 @@ behind s (lastOps before span) = lastOps (s ∷ before) span
 behind s (lastData before span) = lastData (s ∷ before) span
 behind s other = other
 
+-- of a list that begins with a section
 unfoldable pub lastOf : StoredAsmSection → List StoredAsmSection → Last
 lastOf s [] = alone s
 lastOf s (t ∷ ts) = behind s (lastOf t ts)
 
+-- `match self.sections.last_mut()`
 unfoldable pub lastMut : List StoredAsmSection → Last
 lastMut [] = other
 lastMut (s ∷ ss) = lastOf s ss
@@ -109,6 +112,7 @@ newOps a byte =
     andThen (lenIdx bytes′) (λ end.
     done (record { bytes = bytes′; sections = a .sections ++ (Ops (record { start = start; end = end }) ∷ []) }))))
 
+-- the two arms
 abbrev pub opByteAfter : Last → Assembler → ℕ → Run Assembler
 opByteAfter (lastOps before span) a byte = extendOps before span (a .bytes) byte
 opByteAfter (lastData before span) a byte = newOps a byte
@@ -125,7 +129,7 @@ opBytes a (b ∷ bs) = andThen (opByte a b) (λ a′. opBytes a′ bs)
 
 -- ---- swap, dup, exchange
 
--- the last arm of `match depth`
+-- the last arm of `match depth`, of a swap
 abbrev pub lastSwapArm : ℕ
 lastSwapArm = 16
 
@@ -133,6 +137,7 @@ lastSwapArm = 16
 unfoldable pub swapOp : ℕ → Run ℕ
 swapOp depth = cond (leb 1 depth && leb depth lastSwapArm) (done (0x90 + (depth - 1))) panic
 
+-- the last arm of `match depth`, of a dup
 abbrev pub lastDupArm : ℕ
 lastDupArm = 15
 
@@ -207,12 +212,14 @@ longerData before span bytes added =
 unfoldable pub extendData : Build → List StoredAsmSection → Span → List ℕ → List ℕ → Run Assembler
 extendData build before span bytes added = debugAssert build (eqb (span .end) (length bytes)) (longerData before span bytes added)
 
+-- the arm for all else: a new Data section
 unfoldable pub newData : Assembler → List ℕ → Run Assembler
 newData a added =
     andThen (lenIdx (a .bytes)) (λ start.
     andThen (lenIdx (a .bytes ++ added)) (λ end.
     done (record { bytes = a .bytes ++ added; sections = a .sections ++ (Data (record { start = start; end = end }) ∷ []) })))
 
+-- the two arms
 abbrev pub dataAfter : Build → Last → Assembler → List ℕ → Run Assembler
 dataAfter build (lastOps before span) a added = newData a added
 dataAfter build (lastData before span) a added = extendData build before span (a .bytes) added
@@ -240,6 +247,7 @@ storedRef (Delta span) (Sized S4) false = Size4RawDeltaRef span
 
 -- ---- any call, and lists of them
 
+-- a call that adds: `push_mark` to `push_reference`
 abbrev pub pushCall : Build → Push → Assembler → Run Assembler
 pushCall build (pushMark id) a = done (pushSection a (Mark id))
 pushCall build (pushOpByte b) a = opByte a b
@@ -257,6 +265,7 @@ abbrev pub call : Build → Call → Assembler → Run Assembler
 call build (push p) a = pushCall build p a
 call build clear a = done empty
 
+-- one call after another
 unfoldable pub calls : Build → List Call → Assembler → Run Assembler
 calls build [] a = done a
 calls build (c ∷ cs) a = andThen (call build c a) (calls build cs)

@@ -27,14 +27,16 @@ use Rattle.rust_model.specs.Sections.{AsmSection, Mark, Ops, Data, MarkR
 use Rattle.rust_model.specs.Assemble.{Reserve, Reserves, Assembled, assembled, tooSmallSetSize, assemble}
 use Rattle.rust_model.specs.Display.{writeAsm}
 
--- ---- the Rust's list as the list view has it: the bytes of Ops and Data in the sections
+-- ---- the Rust's list as the list view has it
 
+-- a section, with the bytes of Ops and Data in it
 abbrev pub seen : List ℕ → AsmSection → Section
 seen bs (Mark id) = mark id
 seen bs (Ops span) = ops (slice (span .start) (span .end) bs)
 seen bs (Data span) = bytes (slice (span .start) (span .end) bs)
 seen bs (MarkRef r) = reference r
 
+-- all of the Rust's sections
 abbrev pub sectionsOf : Assembler → List Section
 sectionsOf a = map (seen (a .bytes)) (iterSections a)
 

@@ -18,18 +18,20 @@ use Rattle.rust_model.specs.Run.{Run, done, andThen, range}
 use Rattle.rust_model.specs.Building.{Assembler}
 use Rattle.rust_model.specs.Sections.{AsmSection, Mark, Ops, Data, MarkRef, iterSections, asU32}
 
--- `{}` of a number: its digits in front of those that stand already, at most `fuel` of them
+-- the digits of a number in front of those that stand already, at most `fuel` of them
 unfoldable pub digitsBefore : ℕ → ℕ → List ℕ → List ℕ
 digitsBefore zero v after = after
 digitsBefore (suc fuel) v after = cond (ltb v 10) ((48 + v) ∷ after) (digitsBefore fuel (v / 10) ((48 + v % 10) ∷ after))
 
+-- `{}` of a number v: it has no more than v + 1 digits
 unfoldable pub displayed : ℕ → List ℕ
 displayed v = digitsBefore (suc v) v []
 
--- `{byte:02x}`
+-- a digit of `x`
 unfoldable pub hexDigit : ℕ → ℕ
 hexDigit d = cond (ltb d 10) (48 + d) (97 + (d - 10))
 
+-- `{byte:02x}` of each byte
 unfoldable pub hexBytes : List ℕ → List ℕ
 hexBytes [] = []
 hexBytes (b ∷ bs) = hexDigit (b / 16) ∷ hexDigit (b % 16) ∷ hexBytes bs
@@ -62,6 +64,7 @@ fmtOpsFrom zero ops i = []
 fmtOpsFrom (suc fuel) ops i =
     cond (ltb i (length ops)) (fmtOp ops i (getD ops i 0) (pushSize (getD ops i 0)) (fmtOpsFrom fuel ops)) []
 
+-- `fmt_ops`
 unfoldable pub fmtOps : List ℕ → List ℕ
 fmtOps ops = fmtOpsFrom (length ops) ops 0
 
@@ -77,18 +80,22 @@ abbrev pub sizeStr : SetSize → List ℕ
 sizeStr Unsized = []
 sizeStr (Sized s) = asBytes ":" ++ displayed (asU32 s)
 
+-- `if asm_ref.pushed`
 abbrev pub pushOrRaw : Bool → List ℕ
 pushOrRaw true = asBytes "  PUSH "
 pushOrRaw false = asBytes "  RAW "
 
+-- `fmt_mark_ref`
 unfoldable pub fmtMarkRef : AsmReference → List ℕ
 fmtMarkRef r = pushOrRaw (r .pushed) ++ refStr (r .«mark_ref») ++ sizeStr (r .«set_size») ++ asBytes "\n"
 
 -- ---- `write_asm`
 
+-- the line of a mark
 unfoldable pub markLine : ℕ → List ℕ
 markLine id = asBytes ".mark" ++ displayed id ++ asBytes ":\n"
 
+-- the line of data
 unfoldable pub dataLine : List ℕ → List ℕ
 dataLine bytes = asBytes "  data 0x" ++ hexBytes bytes ++ asBytes " (" ++ displayed (length bytes) ++ asBytes " bytes)\n"
 

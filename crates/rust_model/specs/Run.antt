@@ -8,6 +8,7 @@ use lib.Dec.{leb, ltb}
 use lib.ListN.{length, getD, set}
 use lib.Seq.{slice}
 
+-- a value, or a panic
 pub data Run (A : Type 0) : Type 0 where
   done : A → Run A
   panic : Run A

@@ -32,7 +32,7 @@ pub extern "C" fn sadrokki_push_size(byte: u8) -> u32
     facts::push_size(byte)
 }
 
-// The least number of bytes that hold a value, 1 to 4.
+// The bytes that hold a value, 1 to 4.
 #[no_mangle]
 pub extern "C" fn sadrokki_bytes_to_hold(value: u32) -> u32
     ensures { λ r. ⌜ r ≡ heldBytes value ⌝ }

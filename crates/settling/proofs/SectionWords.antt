@@ -8,7 +8,7 @@ use mathlib.Mathlib.Data.Bool.Basic.{or-eq-false-eq-eq-false-and-eq-false as bot
 use lib.Dec.{leb, ltb, eqb}
 use lib.ListN.{length}
 use lib.Seq.{length-slice}
-use borrow.Author.Tests.{leb-false, eq-eqb, ne-eqb, lt-ltb, le-ltb, le-leb}
+use borrow.Author.Tests.{leb-false, eq-eqb, ne-eqb, lt-ltb, le-ltb, le-leb, lt-leb}
 use Rattle.units.specs.Reference.{leastSize, sizeFor}
 use Rattle.units.specs.Form.{formNumber, leastByForm}
 use Rattle.units.proofs.Forms.{least-form, size-form}
@@ -148,6 +148,32 @@ module _ {x : StoredSection} where
   size-words table (delta-words l s p g) n =
       rw (le-ltb (x .kind) directKind (omega arith), ne-eqb (x .kind) directKind (λ e. omega arith), g)
       (size-form (delta (x .first) (x .second) s p) (entry table (x .second) - entry table (x .first)))
+
+-- ---- 7, as the code goes by kinds
+
+module _ (n : ℕ) (x : StoredSection) where
+  pub short-mark : x .kind ≡ markKind → leb n (x .first) ≡ shortWords n x
+  unfolding shortWords
+  short-mark k = rw k (simp (and-true, and-false, or-false))
+
+  pub short-span : (x .kind ≡ markKind → ⊥) → x .kind < directKind → false ≡ shortWords n x
+  unfolding shortWords
+  short-span m l =
+      let a : ltb dataKind (x .kind) ≡ false = le-ltb dataKind (x .kind) (omega arith) in
+      let b : ltb directKind (x .kind) ≡ false = le-ltb directKind (x .kind) (omega arith) in
+      rw (ne-eqb (x .kind) markKind m, a, b) (simp and-false)
+
+  pub short-first : directKind ≤ x .kind → n ≤ x .first → true ≡ shortWords n x
+  unfolding shortWords
+  short-first l h = rw (le-leb n (x .first) h, ne-eqb (x .kind) markKind (λ e. omega arith), lt-ltb dataKind (x .kind) l)
+
+  pub short-direct : x .kind ≡ directKind → x .first < n → false ≡ shortWords n x
+  unfolding shortWords
+  short-direct k h = rw (k, lt-leb n (x .first) h) (simp and-false)
+
+  pub short-second : directKind < x .kind → x .first < n → leb n (x .second) ≡ shortWords n x
+  unfolding shortWords
+  short-second l h = rw (lt-leb n (x .first) h, lt-ltb directKind (x .kind) l) (simp and-true)
 
 -- ---- marks in a table
 

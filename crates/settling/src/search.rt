@@ -1,4 +1,4 @@
-// The test for 7, and the searches for 8 and 12: each the first section with a property, the count of sections if there is none.
+// The test for 7 of one section, and the searches for 8 and 12: the first section with a property, the count of sections if there is none.
 use crate::section::entry_of;
 use crate::section::section_words;
 use records::Assembler;
@@ -6,21 +6,37 @@ use records::StoredSection;
 use records::kind;
 use units::MarkId;
 ghost use mathlib.Core.Path.{_≡_};
+ghost use lib.Dec.{leb};
 ghost use lib.ListN.{length};
 ghost use mathlib.Core.Bool.{false};
 ghost use Rattle.layout.specs.Conditions.{Never, deltaAt, firstUnplaced, firstBackward};
 ghost use Rattle.settling.specs.SectionWalk.{sectionsOf, Fitting, shortWords, MarksIn, unplacedWords, backwardWords};
 ghost use Rattle.settling.specs.SectionWalk.{firstSums, allPlaced};
 
-// 7, for one section. Without branches on the kind: a branch predictor can't guess the kinds of a mixed store. So the words are compared
-// as numbers, whether they are marks or not.
+// A mark that a table of this length has no entry for.
+fn is_past(mark: MarkId, limit: usize) -> bool
+    ensures { λ r. ⌜ r ≡ leb limit («mark» .0) ⌝ }
+{
+    limit <= (mark.0 as usize)
+}
+
+// 7, for one section. It goes by kinds as `place` does, so that the two are compiled to the same branches.
 pub(crate) fn is_short(section: StoredSection, limit: usize) -> bool
     ensures { λ r. ⌜ r ≡ shortWords limit section ⌝ }
 {
-    let kind = section.kind;
-    let first = limit <= (section.first as usize);
-    let second = limit <= (section.second as usize);
-    (first & ((kind == kind::MARK) | (kind::DATA < kind))) | (second & (kind::DIRECT < kind))
+    if section.kind == kind::MARK {
+        return is_past(MarkId(section.first), limit);
+    }
+    if section.kind < kind::DIRECT {
+        return false;
+    }
+    if is_past(MarkId(section.first), limit) {
+        return true;
+    }
+    if section.kind == kind::DIRECT {
+        return false;
+    }
+    is_past(MarkId(section.second), limit)
 }
 
 // 8, for one section, by the table of first placings.

@@ -1,5 +1,5 @@
-// One section as the walks of settling read it: by its three words, of which nothing is made. In an undamaged store a kind below
-// Direct that isn't a mark is Ops or Data, and one above it a delta.
+// One section as the walks of settling read it: by its three words, which become marks or positions once the kind is known. In an
+// undamaged store a kind below Direct that isn't a mark is Ops or Data, and one above it a delta.
 use records::Assembler;
 use records::StoredSection;
 use records::form_of;

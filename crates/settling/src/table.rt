@@ -61,7 +61,7 @@ pub(crate) struct Placings {
     pub(crate) has_delta: bool,
 }
 
-// 7 and 9 are looked for on the way to the table of first placings: a walk of its own for each costs as much as a pass.
+// The table of first placings. 7 and 9 are looked for on the way, so that neither needs a walk of its own.
 pub(crate) fn place(store: Assembler, bytes: &[u8], words: &[u32], table: &mut [u32]) -> Placings
     requires { ⌜ Whole store (now bytes) (now words) ⌝ }
     requires { ⌜ now table ≡ replicate (length (now table)) 0 ⌝ }

@@ -11,7 +11,7 @@ ghost use Rattle.calls.specs.Calls.{recordWords};
 ghost use Rattle.calls.specs.Alone.{storedSection};
 ghost use Rattle.short.specs.Tests.{endMoved};
 
-// The words of one section more; the next state.
+// The words of one section more; the next state. As `append_section` of `adding`, which is private too: a public one would test the index.
 pub(crate) fn append_words(state: u64, words: &mut [u32], kind: u32, first: u32, second: u32) -> u64
     requires { ⌜ (state / 2 ^ 32 < maxSections) × (wordsPerSection * (state / 2 ^ 32 + 1) ≤ length (now words)) ⌝ }
     ensures state { λ r. ⌜ r ≡ state + 2 ^ 32 ⌝ }

@@ -14,7 +14,8 @@ abbrev pub builtReply : Built → BuiltReply
 builtReply (Stored counts) = accepted counts
 builtReply (Refused r) = refusalReply r
 
--- accepted where the number is 0; 6 has a section, 1 to 5 have none, and no building call has passes
+-- the reply to a building call that a number is: accepted where the number is 0; 6 has a section, 1 to 5 have none, and none has passes.
+-- Building answers stop at 6 (`built-below`, numbers Unpacking), so what is said of a number above 6 is of no answer.
 unfoldable pub builtOf : ℕ → BuiltReply
 builtOf answer =
     cond (eqb (numberIn answer) 0) (accepted (countsIn answer))

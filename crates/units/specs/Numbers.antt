@@ -5,7 +5,7 @@ use mathlib.Core.List.{List, [], _∷_, _++_}
 use mathlib.Core.Bool.{cond}
 use lib.Dec.{leb, eqb}
 
--- `bytes_to_hold`: 1 up to 255, 2 up to 65,535, 3 up to 16,777,215, else 4
+-- the bytes that hold a value (`bytes_to_hold`): 1 up to 255, 2 up to 65,535, 3 up to 16,777,215, else 4
 unfoldable pub heldBytes : ℕ → ℕ
 heldBytes v = cond (leb v 255) 1 (cond (leb v 65535) 2 (cond (leb v 16777215) 3 4))
 

@@ -29,19 +29,21 @@ opBytes false = 0
 abbrev pub unsizedPushed : MarkReference → AsmReference
 unsizedPushed m = record { «mark_ref» = m; «set_size» = Unsized; pushed = true }
 
--- 'a set size below the held bytes is too narrow'
+-- 'A set size below the held bytes is too narrow.'
 abbrev pub narrow : SetSize → ℕ → Bool
 narrow (Sized s) v = ltb (refSizeBytes s) (heldBytes v)
 narrow Unsized v = false
 
+-- so of a reference, for value v
 unfoldable pub tooNarrow : AsmReference → ℕ → Bool
 tooNarrow r v = narrow (r .«set_size») v
 
--- least sizes: sized references their size, unsized 1
+-- 'Least sizes: .. sized references their size, unsized 1.'
 abbrev pub least : SetSize → Bool → ℕ
 least (Sized s) p = refSizeBytes s + opBytes p
 least Unsized p = 1
 
+-- the least size of a reference
 unfoldable pub leastSize : AsmReference → ℕ
 leastSize r = least (r .«set_size») (r .pushed)
 
@@ -51,6 +53,7 @@ width (Sized s) p v = refSizeBytes s + opBytes p
 width Unsized true v = cond (eqb v 0) 1 (heldBytes v + 1)
 width Unsized false v = heldBytes v
 
+-- a reference's size for value v
 unfoldable pub size : AsmReference → ℕ → ℕ
 size r v = width (r .«set_size») (r .pushed) v
 

@@ -7,7 +7,7 @@ use Rattle.units.specs.declared.reply.Refusal.the-variants.{BadDepth, Ba
 use Rattle.units.specs.declared.reply.Refusal.the-variants.{Damaged, ShortTable, Unplaced, PlacedApart, TooNarrow}
 use Rattle.units.specs.declared.reply.Refusal.the-variants.{Unsettled, Backward, ResultFull, ListingFull}
 
--- the numbers of the table of replies
+-- the numbers of the table of replies, by its names
 abbrev pub badDepth : ℕ
 badDepth = 1
 
@@ -54,6 +54,7 @@ listingFull = 14
 abbrev pub maxPasses : ℕ
 maxPasses = 1024
 
+-- what 'a refusal gives': number n, 'the first section concerned' i, 'passes made' k
 abbrev pub numbersAt : ℕ → ℕ → ℕ → RefusalNumbers
 numbersAt n i k = record { number = n; section = i; passes = k }
 

@@ -4,6 +4,8 @@ use Rattle.units.specs.Replies.{refusalNumbers}
 use Rattle.units.specs.declared.reply.Refusal.{Refusal}
 use Rattle.units.specs.declared.reply.RefusalNumbers.{RefusalNumbers}
 
+-- accepted with what the call gives, or refused: 'A refusal gives its number, the first section concerned .. and passes made.' Here in
+-- that order; as one number (numbers Numbers) in the order number, passes, section.
 pub data Reply (A : Type 0) : Type 0 where
   accepted : A → Reply A
   -- number, section, passes made

@@ -1,18 +1,34 @@
--- An undamaged store can be listed from the text's start on.
+-- An undamaged store can be listed from the text's start on; and where there is no room, nothing is stored.
 -- Assumes nothing.
 use borrow.Author.Needs.{needs}
+use denote.Ref.{now}
+use Rattle.listing.proofs.Puts.{put-end}
 use Rattle.listing.proofs.Every.{listable}
 use Rattle.listing.proofs.listing_length.Statement.{statement}
 use Rattle.listing.proofs.listing_length.Tie as tie
 
-slice-aggregate-write-store : tie.Need-slice-aggregate-write-store
-slice-aggregate-write-store c = search needs
+sub-write-store : tie.Need-sub-write-store
+sub-write-store c = search needs
+
+part-write-store-start : tie.Need-part-write-store-start
+part-write-store-start c = search needs
+
+part-write-store-end : tie.Need-part-write-store-end
+part-write-store-end c = search needs
 
 write-store-requires : tie.Need-write-store-requires
-write-store-requires c κs = listable _ _ (c .before .before .before .pre)
+write-store-requires c κs =
+    let start = c .before .before .before .before in
+    listable _ _ (start .pre)
+
+same-length : tie.Need-same-length
+same-length c = search needs
 
 returns : tie.Need-returns
-returns c = search needs
+returns c =
+    let written = c .before .before in
+    let start = written .before .before .before .before .before in
+    put-end (now (start .args .text)) (written .write-store .ensures)
 
 pub listing-length-spec : {M : Type 1} → statement M
-listing-length-spec = tie.close (tie.spec slice-aggregate-write-store write-store-requires returns)
+listing-length-spec = tie.close (tie.spec sub-write-store part-write-store-start part-write-store-end write-store-requires same-length returns)

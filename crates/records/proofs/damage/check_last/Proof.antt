@@ -7,9 +7,10 @@ use mathlib.Core.Bool.{Bool, true, false}
 use borrow.Author.Needs.{needs}
 use denote.Ref.{now}
 use Rattle.records.specs.Damage.{brokenLast, lastSoundness}
-use Rattle.records.specs.Held.{endsElsewhere}
+use Rattle.records.specs.Held.{heldBy, heldRead, endsElsewhere}
 use Rattle.records.specs.Store.{Store, storeOf, sectionWords, wordsPerSection}
 use Rattle.records.specs.declared.record.StoredSection.{StoredSection}
+use Rattle.records.specs.declared.damage.Held.{Held}
 use Rattle.records.specs.declared.damage.Soundness.the-variants.{Sound, Damaged}
 use Rattle.records.proofs.Damages.{good-words, last-counts, last-unheld, last-none, last-damaged, last-sound}
 use Rattle.records.proofs.Helds.{damaged-last, held-last}
@@ -46,14 +47,21 @@ of-words : (c : tie.After-section-words) → last-broken (counted (c .before)) �
 of-words c = ap (λ (r : StoredSection). brokenLast r (store-at (counted (c .before)) .storedBytes)) (sym (c .section-words .ensures))
 
 -- where it was read, seen from where it was found to be readable
-abbrev reading : tie.After-read → tie.After-read-held
+abbrev reading : tie.After-read → tie.After-read-section
 reading c = c .before .before
 
 -- what the code tests of it then
-of-held : (c : tie.After-read) → last-broken (counted (reading c .before .before)) ≡ endsElsewhere (c .read .given .0 .0) (store-at (counted (reading c .before .before)) .storedBytes)
+of-held : (c : tie.After-read) → last-broken (counted (reading c .before .before)) ≡ endsElsewhere (heldBy (c .read .given .0 .0)) (store-at (counted (reading c .before .before)) .storedBytes)
 of-held c =
     let words = reading c .before in
-    of-words words ∙ held-last (words .section-words .result) (c .read .given .0 .0) (sym (c .read .given .1) ∙ reading c .read-held .ensures) _
+    of-words words
+    ∙ held-last (words .section-words .result) (heldBy (c .read .given .0 .0)) (ap heldRead (sym (c .read .given .1) ∙ reading c .read-section .ensures)) _
+
+-- and it was tested so
+of-test : (c : tie.After-ends-elsewhere) → endsElsewhere (heldBy (c .before .before .before .read .given .0 .0)) (store-at (counted (reading (c .before .before .before) .before .before)) .storedBytes) ≡ c .ends-elsewhere .result
+of-test c =
+    let stored = store-at (counted (reading (c .before .before .before) .before .before)) .storedBytes in
+    sym (c .ends-elsewhere .ensures ∙ ap (λ (h : Held). endsElsewhere h stored) (c .before .held-by .ensures))
 
 -- ---- the needs
 
@@ -91,8 +99,8 @@ section-words-requires c κs =
     let good = c .before .before .before in
     omega (arith, good-words wordsPerSection (store-at (counted c)) (sym (counted c .counts-are-bad .ensures) ∙ good .if1 .left))
 
-read-held-requires : tie.Need-read-held-requires
-read-held-requires c κs = search needs
+read-section-requires : tie.Need-read-section-requires
+read-section-requires c κs = search needs
 
 enum-known-read : tie.Need-enum-known-read
 enum-known-read c = search needs
@@ -104,7 +112,10 @@ returns-4 : tie.Need-returns-4
 returns-4 c =
     let read = c .before .before in
     let words = read .before in
-    is-damaged (words .before) (of-words words ∙ damaged-last (words .section-words .result) _ (sym (c .enum-told .given .1) ∙ read .read-held .ensures))
+    is-damaged (words .before) (of-words words ∙ damaged-last (words .section-words .result) _ (ap heldRead (sym (c .enum-told .given .1) ∙ read .read-section .ensures)))
+
+held-by-requires : tie.Need-held-by-requires
+held-by-requires c κs = search needs
 
 ends-elsewhere-requires : tie.Need-ends-elsewhere-requires
 ends-elsewhere-requires c κs = search needs
@@ -112,14 +123,14 @@ ends-elsewhere-requires c κs = search needs
 returns-5 : tie.Need-returns-5
 returns-5 c =
     let tested = c .before in
-    let was = tested .before .before in
-    is-damaged (reading was .before .before) (of-held was ∙ sym (tested .ends-elsewhere .ensures) ∙ c .if4 .taken)
+    let was = tested .before .before .before in
+    is-damaged (reading was .before .before) (of-held was ∙ of-test tested ∙ c .if4 .taken)
 
 returns-6 : tie.Need-returns-6
 returns-6 c =
     let tested = c .before in
-    let was = tested .before .before in
-    is-sound (reading was .before .before) (of-held was ∙ sym (tested .ends-elsewhere .ensures) ∙ c .if4 .left)
+    let was = tested .before .before .before in
+    is-sound (reading was .before .before) (of-held was ∙ of-test tested ∙ c .if4 .left)
 
 pub check-last-spec : {M : Type 1} → statement M
 check-last-spec =
@@ -133,10 +144,11 @@ check-last-spec =
     sub-last
     cast-section-words
     section-words-requires
-    read-held-requires
+    read-section-requires
     enum-known-read
     enum-told
     returns-4
+    held-by-requires
     ends-elsewhere-requires
     returns-5
     returns-6)
