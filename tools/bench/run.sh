@@ -44,19 +44,24 @@ if [ $# -ge 1 ]; then
         --extern alloy_primitives="$out/liballoy_primitives.rlib" --out-dir "$out"
     linked="--cfg original --extern assembler=$out/libassembler.rlib --extern plank_core=$out/libplank_core.rlib --extern alloy_primitives=$out/liballoy_primitives.rlib"
 fi
-# Four links, 16 bytes apart, each run three times: the table has the least of them, for both sides.
+# Eight links: the archive's code at four places 16 bytes apart, the functions of this program at two
+# alignments; each run twice. The table has the least of them, for both sides.
 rm -f "$out/rows"
-for bytes in 16 32 48 64; do
-    echo "$bytes" >"$out/shift"
-    SHIFT=$out rustc $flags --check-cfg 'cfg(original)' --check-cfg 'cfg(shift)' --cfg shift $linked \
-        -l static=sadrokki "$here/bench.rs" -o "$out/bench$bytes"
-done
-for turn in 1 2 3; do
+links=""
+for power in 4 6; do
     for bytes in 16 32 48 64; do
-        "$out/bench$bytes" ${2:+"$2"} >>"$out/rows"
+        echo "$bytes" >"$out/shift"
+        SHIFT=$out rustc $flags --check-cfg 'cfg(original)' --check-cfg 'cfg(shift)' --cfg shift $linked \
+            -C llvm-args=-align-all-functions=$power -l static=sadrokki "$here/bench.rs" -o "$out/bench$bytes.$power"
+        links="$links $out/bench$bytes.$power"
     done
 done
-"$out/bench16" --table "$out/rows"
+for turn in 1 2; do
+    for link in $links; do
+        "$link" ${2:+"$2"} >>"$out/rows"
+    done
+done
+"$out/bench16.4" --table "$out/rows"
 
 if [ -x "$root/tools/c/run.sh" ]; then
     "$root/tools/c/run.sh" "$out/libsadrokki.a"

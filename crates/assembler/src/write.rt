@@ -49,7 +49,8 @@ pub(crate) fn write_code(
     }
 }
 
-// The three words of section i. A copy of the reader in `records` and not a call: a public one would test the index at each section.
+// The three words of section i. A copy of the reader in `records`, private and so without a test of the index, with which assembly takes
+// 8 to 15 % longer (docs/DECISIONS.md, 49).
 fn section_words(words: &[u32], i: usize) -> StoredSection
     requires { ⌜ wordsPerSection * (i + 1) ≤ length (now words) ⌝ }
     ensures { λ r. ⌜ r ≡ wordsAt wordsPerSection (now (words .entry)) i ⌝ }
@@ -89,7 +90,7 @@ fn write_section(
     write_reference(section, table, result, at)
 }
 
-// Copies the bytes of a span; the position after them.
+// Copies the bytes of a span; the position after them. A loop of its own: `slices::write_bytes` would test the room at each section.
 fn write_span(span: BytesSpan, bytes: &[u8], result: &mut [u8], at: usize) -> usize
     requires { ⌜ SpanIn (length (now bytes)) span ⌝ }
     requires { ⌜ Fits (now result) at (spanBytes (now bytes) span) ⌝ }

@@ -6,7 +6,7 @@ use lib.Dec.{ltb}
 use lib.ListN.{length, replicate}
 use Rattle.units.specs.Replies as number
 use Rattle.units.specs.Reply.{Reply, accepted, numbersReply}
-use Rattle.units.specs.declared.reply.RefusalNumbers.{RefusalNumbers}
+use Rattle.units.specs.Replies.{RefusalNumbers}
 use Rattle.records.specs.Sections.{Section}
 use Rattle.layout.specs.Passes as settling
 use Rattle.layout.specs.Conditions.{IsFirst, Never, shortAt, firstShort, unplacedAt, firstUnplaced, apartAt, firstApart}

@@ -30,7 +30,8 @@ ghost use Rattle.undamaged.specs.Section.{ReadIn, marksOf};
 ghost use Rattle.listing.specs.Put.{Put, Room, wordsText, storeText, storeWith, Listable};
 ghost use Rattle.listing.specs.Sink.{added};
 
-// The three words of section i. A copy of the reader in `records` and not a call: a public one would test the index at each section.
+// The three words of section i. A copy of the reader in `records`, private and so without a test of the index, with which a listing takes
+// 3 % longer (docs/DECISIONS.md, 49).
 fn section_words(words: &[u32], i: u32) -> StoredSection
     requires { ⌜ wordsPerSection * (i + 1) ≤ length (now words) ⌝ }
     ensures { λ r. ⌜ r ≡ wordsAt wordsPerSection (now (words .entry)) i ⌝ }

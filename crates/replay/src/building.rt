@@ -145,9 +145,12 @@ fn minimal_u256(
     )
 }
 
+// 2^32: the value of the high half's lowest bit.
+const HIGH_HALF: u64 = 4294967296;
+
 // Kind 9: a minimal push of a × 2^32 + b.
 fn minimal_u64(store: Assembler, a: u32, b: u32, bytes: &mut [u8], words: &mut [u32]) -> Assembler {
-    let value = a as u64 * 4294967296 + b as u64;
+    let value = a as u64 * HIGH_HALF + b as u64;
     say_built(store, store::push_minimal_u64(store, bytes, words, value))
 }
 

@@ -16,7 +16,8 @@ ghost use Rattle.records.specs.Store.{wordsPerSection, wordsAt};
 ghost use Rattle.layout.specs.Passes.{entry};
 ghost use Rattle.settling.specs.SectionWalk.{MarksIn, valueWords, leastWords, sizeWords};
 
-// The three words of section i. Private, and so without a test of the index, which every turn of every walk would pay for.
+// The three words of section i. A copy of the reader in `records`, private and so without a test of the index, with which assembly takes
+// 8 to 15 % longer (docs/DECISIONS.md, 49).
 pub(crate) fn section_words(words: &[u32], i: usize) -> StoredSection
     requires { ⌜ wordsPerSection * (i + 1) ≤ length (now words) ⌝ }
     ensures { λ r. ⌜ r ≡ wordsAt wordsPerSection (now (words .entry)) i ⌝ }

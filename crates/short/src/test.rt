@@ -19,9 +19,6 @@ pub(crate) fn takes_section(state: u64, bytes: &[u8], words: &[u32]) -> bool
     let stored = (state % SECTION) as u32;
     let sections = (state / SECTION) as u32;
     let next = sections as usize;
-    if sections == 0 {
-        return false;
-    }
     if words.len() < Assembler::WORDS * next + Assembler::WORDS {
         return false;
     }
@@ -29,6 +26,9 @@ pub(crate) fn takes_section(state: u64, bytes: &[u8], words: &[u32]) -> bool
         return false;
     }
     if Assembler::MAX_BYTES <= stored {
+        return false;
+    }
+    if sections == 0 {
         return false;
     }
     if bytes.len() < (stored as usize) {

@@ -32,7 +32,8 @@ SmallMarks (Delta d) = (d .start .0 ≤ maxMark) × (d .end .0 ≤ maxMark)
 -- the marks that a reference's words name, by their kind
 abbrev pub marksOf : StoredSection → MarkReference
 marksOf x =
-    cond (eqb (x .kind) directKind) (Direct (record { 0 = x .first })) (Delta (record { start = record { 0 = x .first }; end = record { 0 = x .second } }))
+    cond (eqb (x .kind) directKind) (Direct (record { 0 = x .first }))
+    (Delta (record { start = record { 0 = x .first }; end = record { 0 = x .second } }))
 
 -- a reference put together from its words: the marks, and the set size and 'pushed' that its form says
 abbrev pub referenceOf : StoredSection → AsmReference

@@ -1,7 +1,6 @@
 -- Document 01, 'Replies': the number, section and passes of each refusal.
 -- Contracts of the calls speak of an answer through these definitions. Assumes nothing.
 use Prim.Native.Nat.{ℕ}
-use Rattle.units.specs.declared.reply.RefusalNumbers.{RefusalNumbers}
 use Rattle.units.specs.declared.reply.Refusal.{Refusal}
 use Rattle.units.specs.declared.reply.Refusal.the-variants.{BadDepth, BadWord, LargeMark, BytesFull, SectionsFull}
 use Rattle.units.specs.declared.reply.Refusal.the-variants.{Damaged, ShortTable, Unplaced, PlacedApart, TooNarrow}
@@ -54,7 +53,13 @@ listingFull = 14
 abbrev pub maxPasses : ℕ
 maxPasses = 1024
 
--- what 'a refusal gives': number n, 'the first section concerned' i, 'passes made' k
+-- what 'a refusal gives': 'its number, the first section concerned .. and passes made'
+pub record RefusalNumbers : Type 0 where
+  pub number : ℕ
+  pub section : ℕ
+  pub passes : ℕ
+
+-- number n, section i, passes k
 abbrev pub numbersAt : ℕ → ℕ → ℕ → RefusalNumbers
 numbersAt n i k = record { number = n; section = i; passes = k }
 

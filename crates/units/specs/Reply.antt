@@ -1,8 +1,7 @@
 -- Document 01, 'Replies': what a call answers, over what it gives where it accepts. Assumes nothing.
 use Prim.Native.Nat.{ℕ}
-use Rattle.units.specs.Replies.{refusalNumbers}
+use Rattle.units.specs.Replies.{RefusalNumbers, refusalNumbers}
 use Rattle.units.specs.declared.reply.Refusal.{Refusal}
-use Rattle.units.specs.declared.reply.RefusalNumbers.{RefusalNumbers}
 
 -- accepted with what the call gives, or refused: 'A refusal gives its number, the first section concerned .. and passes made.' Here in
 -- that order; as one number (numbers Numbers) in the order number, passes, section.

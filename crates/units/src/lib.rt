@@ -4,7 +4,6 @@ pub mod form;
 mod reply;
 
 pub use reply::Refusal;
-pub use reply::RefusalNumbers;
 ghost use mathlib.Core.Path.{_≡_};
 ghost use Prim.Native.Nat.{_≤_};
 ghost use Rattle.units.specs.Numbers.{heldBytes};

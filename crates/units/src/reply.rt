@@ -21,13 +21,6 @@ pub enum Refusal {
     ListingFull,
 }
 
-// What is printed of a refusal.
-pub struct RefusalNumbers {
-    pub number: u32,
-    pub section: u32,
-    pub passes: u32,
-}
-
 impl Refusal {
     // The number of the table of replies.
     pub fn number(self) -> u32

@@ -15,14 +15,14 @@ cast-sections c = search needs
 cast-next : tie.Need-cast-next
 cast-next c = search needs
 
+mul-if1 : tie.Need-mul-if1
+mul-if1 c = search needs
+
+add-if1 : tie.Need-add-if1
+add-if1 c = search needs
+
 returns : tie.Need-returns
 returns c = λ h. absurd (false≢true h)
-
-mul-if2 : tie.Need-mul-if2
-mul-if2 c = search needs
-
-add-if2 : tie.Need-add-if2
-add-if2 c = search needs
 
 returns-2 : tie.Need-returns-2
 returns-2 c = λ h. absurd (false≢true h)
@@ -53,11 +53,11 @@ returns-6 c =
     let at-if2 = at-if3 .before in
     let at-if1 = at-if2 .before in
     λ h. record {
-      some = omega (arith, at-if1 .if1 .left);
-      few = omega (arith, at-if3 .if3 .left);
-      limit = omega (arith, at-if4 .if4 .left);
+      some = omega (arith, at-if4 .if4 .left);
+      few = omega (arith, at-if2 .if2 .left);
+      limit = omega (arith, at-if3 .if3 .left);
       held = at-if5 .if5 .left;
-      free = omega (arith, at-if2 .if2 .left);
+      free = omega (arith, at-if1 .if1 .left);
       last = c .is-whole .ensures h;
     }
 
@@ -68,9 +68,9 @@ takes-section-spec =
     cast-stored
     cast-sections
     cast-next
+    mul-if1
+    add-if1
     returns
-    mul-if2
-    add-if2
     returns-2
     returns-3
     returns-4
