@@ -4,13 +4,13 @@ use mathlib.Core.Path.{_≡_, refl}
 use mathlib.Core.Bool.{true, false}
 use mathlib.Core.List.{List}
 use lib.ListN.{length, set}
+use Rattle.records.specs.Record.{storedSection}
 use Rattle.slices.specs.Over.{over}
-use Rattle.records.specs.Store.{Store}
+use Rattle.records.specs.Store.{Store, recordWords}
 use Rattle.records.specs.Damage.{lastSoundness}
 use Rattle.records.specs.Sections.{ops, bytes}
 use Rattle.records.specs.declared.damage.Soundness.the-variants.{Sound}
-use Rattle.calls.specs.Calls.{recordWords, joins, bytesOver, bytesPass, noSectionLeft}
-use Rattle.calls.specs.Alone.{storedSection}
+use Rattle.calls.specs.Calls.{joins, bytesOver, bytesPass, noSectionLeft}
 use Rattle.numbers.specs.Numbers.{packed}
 use Rattle.numbers.proofs.Adds.{Adds, add-joined, add-appended}
 use Rattle.adding.specs.Adding.{kindNumber, bytesSection, lastKindIs}

@@ -8,15 +8,16 @@ use records::Soundness;
 use records::StoredSection;
 use records::check_last;
 use records::kind;
+use records::write_words;
 use slices::write_bytes;
 use units::Refusal;
 ghost use mathlib.Core.Path.{_≡_};
 ghost use Prim.Native.Nat.{_+_, _*_, _-_, _≤_, _<_};
 ghost use lib.ListN.{length, set};
+ghost use Rattle.records.specs.Record.{storedSection};
 ghost use Rattle.records.specs.Store.{wordsPerSection};
-ghost use Rattle.slices.specs.Over.{over};
-ghost use Rattle.calls.specs.Calls.{recordWords, bytesOver, noSectionLeft, addReply, addAfter};
-ghost use Rattle.calls.specs.Alone.{storedSection, wordsReply, wordsAfter};
+ghost use Rattle.calls.specs.Calls.{bytesOver, noSectionLeft, addReply, addAfter};
+ghost use Rattle.calls.specs.Alone.{wordsReply, wordsAfter};
 ghost use Rattle.numbers.specs.Numbers.{storeIn, builtNumber};
 ghost use Rattle.adding.specs.Adding.{kindNumber, bytesSection, lastKindIs};
 
@@ -64,7 +65,7 @@ pub fn add_bytes(
         return refusal_number(Refusal::SectionsFull);
     }
     write_bytes(bytes, at as usize, added);
-    append_section(words, sections, number, at, end);
+    write_words(words, sections, number, at, end);
     state_of(Assembler {
         bytes: end,
         sections: sections + 1,
@@ -94,7 +95,7 @@ pub fn add_section(
     if no_section_left(sections, words) {
         return refusal_number(Refusal::SectionsFull);
     }
-    append_section(words, sections, kind, first, second);
+    write_words(words, sections, kind, first, second);
     state_of(Assembler {
         bytes: store.bytes,
         sections: sections + 1,
@@ -153,16 +154,4 @@ fn set_end(words: &mut [u32], sections: u32, end: u32)
     let last = (sections - 1) as usize;
     let at = Assembler::WORDS * last + 2;
     words[at] = end;
-}
-
-// Writes the words of the next section. `short` has a copy (`append_words`): a public one would test the index.
-fn append_section(words: &mut [u32], sections: u32, kind: u32, first: u32, second: u32)
-    requires { ⌜ wordsPerSection * (sections + 1) ≤ length (now words) ⌝ }
-    ensures { λ _. ⌜ now (words .exit) ≡ over (now (words .entry)) (wordsPerSection * sections)
-        (recordWords wordsPerSection (storedSection kind first second)) ⌝ }
-{
-    let at = Assembler::WORDS * (sections as usize);
-    words[at] = kind;
-    words[at + 1] = first;
-    words[at + 2] = second;
 }

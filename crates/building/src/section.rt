@@ -13,10 +13,10 @@ use units::MarkReference;
 use units::Refusal;
 ghost use mathlib.Core.Path.{_≡_};
 ghost use lib.Dec.{ltb};
-ghost use Rattle.records.specs.Record.{maxMark};
+ghost use Rattle.records.specs.Record.{maxMark, storedSection};
 ghost use Rattle.records.specs.Store.{wordsPerSection};
 ghost use Rattle.calls.specs.Calls.{pushMark, pushReference, namesLargeMark, pushReply, pushAfter};
-ghost use Rattle.calls.specs.Alone.{storedSection, wordsReply, wordsAfter};
+ghost use Rattle.calls.specs.Alone.{wordsReply, wordsAfter};
 ghost use Rattle.numbers.specs.Numbers.{storeIn, builtNumber};
 ghost use Rattle.numbers.specs.Forms.{formOf, direct, delta, referenceNumber, referenceAfter};
 

@@ -15,10 +15,10 @@ use lib.Dec.{ltb}
 use borrow.Author.Tests.{ltb-true, ltb-false}
 use Rattle.records.specs.declared.record.StoredSection.{StoredSection}
 use Rattle.records.specs.Record.{readSection}
-use Rattle.records.specs.Store.{Store, maxBytes, maxSections, sectionWords}
+use Rattle.records.specs.Store.{Store, maxBytes, maxSections, sectionWords, recordWords}
 use Rattle.records.specs.Damage.{unreadable, isSpan, endBefore}
 use Rattle.records.specs.Sections.{Section, sectionRead, decodeAt, decodeFrom, decode}
-use Rattle.calls.specs.Calls.{bytesOf, wordsOf, extends, joins, recordWords, joined, appended, withSection}
+use Rattle.calls.specs.Calls.{bytesOf, wordsOf, extends, joins, joined, appended, withSection}
 use Rattle.slices.specs.Over.{over}
 use Rattle.calls.specs.Lists.{afterLast, addedAfter, addedTo}
 use Rattle.undamaged.specs.View.{Facts}

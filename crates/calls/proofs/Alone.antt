@@ -16,11 +16,11 @@ use Rattle.slices.proofs.Over.{over-nothing}
 use Rattle.records.specs.declared.record.StoredSection.{StoredSection}
 use Rattle.records.specs.declared.damage.Soundness.{Soundness}
 use Rattle.records.specs.declared.damage.Soundness.the-variants.{Sound, Damaged}
-use Rattle.records.specs.Store.{Store, countsOf, maxBytes}
+use Rattle.records.specs.Store.{Store, countsOf, maxBytes, recordWords}
 use Rattle.records.specs.Damage.{lastSoundness}
 use Rattle.records.specs.Sections.{Section, mark, ops, bytes, reference}
 use Rattle.records.proofs.Damages.{good-bytes}
-use Rattle.calls.specs.Calls.{BuiltReply, bytesOf, wordsOf, recordWords, joins, appended, withSection, bytesPass, noSectionLeft, sectionPasses, roomReply, addReply, addAfter, ifStored}
+use Rattle.calls.specs.Calls.{BuiltReply, bytesOf, wordsOf, joins, appended, withSection, bytesPass, noSectionLeft, sectionPasses, roomReply, addReply, addAfter, ifStored}
 use Rattle.calls.specs.Alone.{StandsAlone, withWords, wordsReply, wordsAfter}
 use Rattle.calls.proofs.Rooms.{sound-counts}
 

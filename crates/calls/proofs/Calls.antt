@@ -14,10 +14,10 @@ use lib.Dec.{ltb}
 use borrow.Author.Tests.{ltb-true, ltb-false}
 use Rattle.units.specs.Reply.{accepted, refused}
 use Rattle.records.specs.declared.Assembler.{Assembler}
-use Rattle.records.specs.Store.{Store, maxSections}
+use Rattle.records.specs.Store.{Store, maxSections, recordWords}
 use Rattle.records.specs.Damage.{endBefore}
 use Rattle.records.specs.Sections.{Section, decodeFrom, decode}
-use Rattle.calls.specs.Calls.{BuiltReply, Push, pushMark, pushOpByte, pushSwap, pushDup, pushExchange, pushMinimalU256, pushMinimalU64, pushMinimalU32, pushData, pushReference, Call, push, clear, hasLargeMark, added, bytesOf, wordsOf, joins, recordWords, joined, appended, withSection, bytesPass, noSectionLeft, sectionPasses, pushReply, pushAfter, emptied, callReply, callAfter}
+use Rattle.calls.specs.Calls.{BuiltReply, Push, pushMark, pushOpByte, pushSwap, pushDup, pushExchange, pushMinimalU256, pushMinimalU64, pushMinimalU32, pushData, pushReference, Call, push, clear, hasLargeMark, added, bytesOf, wordsOf, joins, joined, appended, withSection, bytesPass, noSectionLeft, sectionPasses, pushReply, pushAfter, emptied, callReply, callAfter}
 use Rattle.undamaged.specs.View.{Undamaged}
 use Rattle.calls.specs.Answers.{Accepted, Kept}
 use Rattle.slices.proofs.Tests.{and-false, cond-true, cond-false}

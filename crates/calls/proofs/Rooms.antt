@@ -1,22 +1,17 @@
--- What the tests of a building call tell of the counts, and three stores as one record. The laws of the answers stand in `numbers`,
--- proofs/Adds. Assumes nothing.
+-- What the tests of a building call tell of the counts. The laws of the answers stand in `numbers`, proofs/Adds. Assumes nothing.
 use Prim.Native.Nat.{ℕ, _+_, _*_, _≤_, _<_}
 use native.Mathlib.Omega.{arith}
-use native.Mathlib.Numerals.{add-one, add-two}
-use mathlib.Core.Path.{_≡_, refl, _∙_}
+use mathlib.Core.Path.{_≡_, refl}
 use mathlib.Core.Bool.{Bool, true, false}
 use mathlib.Mathlib.Data.Bool.Basic.{or-eq-false-eq-eq-false-and-eq-false as or-false}
-use mathlib.Core.List.{List, [], _∷_, append-assoc}
-use lib.ListN.{length, take, drop, set}
-use lib.Seq.{sets-eq}
+use mathlib.Core.List.{List}
+use lib.ListN.{length}
 use lib.Dec.{ltb}
 use borrow.Author.Tests.{lt-ltb, le-ltb, ltb-false}
-use Rattle.slices.specs.Over.{over}
 use Rattle.records.specs.Store.{Store, maxSections, badCounts}
 use Rattle.records.specs.Damage.{lastSoundness, badCountBuilding}
 use Rattle.records.specs.declared.damage.Soundness.the-variants.{Sound, Damaged}
-use Rattle.records.specs.declared.record.StoredSection.{StoredSection}
-use Rattle.calls.specs.Calls.{recordWords, noSectionLeft}
+use Rattle.calls.specs.Calls.{noSectionLeft}
 
 -- counts are good where a building call's test finds nothing
 pub sound-counts : (w : ℕ) (st : Store) → lastSoundness w st ≡ Sound → badCounts w st ≡ false
@@ -49,10 +44,3 @@ unfolding noSectionLeft
 left-fits w n words e =
     let both = or-false (ltb maxSections (n + 1)) (ltb (length words) (w * (n + 1))) .0 e in
     (ltb-false maxSections (n + 1) (both .0), ltb-false (length words) (w * (n + 1)) (both .1))
-
--- three stores are the record written over the words from i on
-pub three-stores : (l : List ℕ) (i : ℕ) (r : StoredSection) → i + 3 ≤ length l
-    → set (set (set l i (r .kind)) (i + 1) (r .first)) (i + 2) (r .second) ≡ over l i (recordWords 3 r)
-three-stores l i r h =
-    let three : List ℕ = r .kind ∷ r .first ∷ r .second ∷ [] in
-    rw (add-one i, add-two i) (sets-eq three l i h ∙ append-assoc (take i l) three (drop (i + 3) l))

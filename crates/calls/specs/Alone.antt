@@ -6,10 +6,10 @@ use Rattle.units.specs.Replies.{sectionsFull}
 use Rattle.units.specs.Reply.{accepted, refused}
 use Rattle.slices.specs.Over.{over}
 use Rattle.records.specs.declared.record.StoredSection.{StoredSection}
-use Rattle.records.specs.Store.{Store, countsOf}
+use Rattle.records.specs.Store.{Store, countsOf, recordWords}
 use Rattle.records.specs.Damage.{lastSoundness}
 use Rattle.records.specs.Sections.{Section, mark, ops, bytes, reference}
-use Rattle.calls.specs.Calls.{BuiltReply, recordWords, noSectionLeft, soundReply, ifStored}
+use Rattle.calls.specs.Calls.{BuiltReply, noSectionLeft, soundReply, ifStored}
 
 -- a mark or a reference
 abbrev pub StandsAlone : Section → Type 0
@@ -17,10 +17,6 @@ StandsAlone (mark m) = Unit {0}
 StandsAlone (ops bs) = ⊥
 StandsAlone (bytes bs) = ⊥
 StandsAlone (reference r) = Unit {0}
-
--- three words as a record
-abbrev pub storedSection : ℕ → ℕ → ℕ → StoredSection
-storedSection kind first second = record { kind = kind; first = first; second = second }
 
 -- one record appended
 abbrev pub withWords : ℕ → StoredSection → Store → Store

@@ -3,7 +3,7 @@
 use Prim.Native.Nat.{ℕ, _+_, _*_, min, _-_}
 use mathlib.Core.List.{List, [], _∷_}
 use mathlib.Core.Bool.{Bool, false, cond, not, _&&_, _||_}
-use lib.ListN.{length, set, replicate}
+use lib.ListN.{length, set}
 use lib.Dec.{ltb, eqb}
 use Rattle.units.specs.declared.MarkReference.{MarkReference}
 use Rattle.units.specs.declared.MarkReference.the-variants.{Direct, Delta}
@@ -18,7 +18,7 @@ use Rattle.records.specs.declared.record.StoredSection.{StoredSection}
 use Rattle.records.specs.declared.damage.Soundness.{Soundness}
 use Rattle.records.specs.declared.damage.Soundness.the-variants.{Sound, Damaged}
 use Rattle.records.specs.Record.{maxMark, markKind, opsKind, dataKind, referenceWords}
-use Rattle.records.specs.Store.{Store, maxBytes, maxSections, emptyCounts, countsOf, sectionWords}
+use Rattle.records.specs.Store.{Store, maxBytes, maxSections, emptyCounts, countsOf, sectionWords, recordWords}
 use Rattle.records.specs.Damage.{lastSoundness}
 use Rattle.records.specs.Sections.{Section, mark, ops, bytes, reference}
 
@@ -142,10 +142,6 @@ extends kind (reference r) = false
 -- what is added extends the last section, of which there is one; else 'a section is added'
 unfoldable pub joins : ℕ → Section → Store → Bool
 joins w s st = ltb 0 (st .sections) && extends (sectionWords w st (st .sections - 1) .kind) s
-
--- the words of a record, with 0 in those past the third
-abbrev pub recordWords : ℕ → StoredSection → List ℕ
-recordWords w r = r .kind ∷ r .first ∷ r .second ∷ replicate (w - 3) 0
 
 -- the last section extended: the bytes appended, and its end (word 2) replaced
 abbrev pub joined : ℕ → Section → Store → Store

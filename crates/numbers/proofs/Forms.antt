@@ -10,9 +10,8 @@ use Rattle.units.specs.declared.SetSize.{SetSize}
 use Rattle.units.specs.declared.MarkReference.{MarkReference}
 use Rattle.units.specs.Reference.{leastSize, sizeFor, tooNarrow, size}
 use Rattle.units.specs.Form.{sizeNumber, pushedNumber}
-use Rattle.records.specs.Record.{setSizeOf, directKind, deltaKind, referenceWords}
+use Rattle.records.specs.Record.{setSizeOf, directKind, deltaKind, referenceWords, storedSection}
 use Rattle.records.specs.Store.{Store}
-use Rattle.calls.specs.Alone.{storedSection}
 use Rattle.numbers.specs.declared.form.Form.the-variants.{Names, Nothing}
 use Rattle.numbers.specs.Numbers.{namesNothing}
 use Rattle.numbers.specs.Forms.{formOf, direct, delta, formed, referenceNumber, referenceAfter, isForm, formKind}

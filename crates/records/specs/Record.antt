@@ -45,6 +45,10 @@ rawDeltaKind = 9
 unfoldable pub setSizeOf : ℕ → SetSize
 setSizeOf n = cond (eqb n 0) Unsized (cond (eqb n 1) (Sized S1) (cond (eqb n 2) (Sized S2) (cond (eqb n 3) (Sized S3) (Sized S4))))
 
+-- three words as a record
+abbrev pub storedSection : ℕ → ℕ → ℕ → StoredSection
+storedSection kind first second = record { kind = kind; first = first; second = second }
+
 -- Mark: number, 0
 unfoldable pub readMark : ℕ → ℕ → SectionRead
 readMark a b = cond (leb a maxMark && eqb b 0) (Read (Mark (record { 0 = a }))) Damaged

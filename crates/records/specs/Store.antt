@@ -1,9 +1,9 @@
 -- Document 01, module 2: a store as a call is lent it, and its limits. In these definitions the words of a section are a
 -- parameter, w; in the code they are three. Assumes nothing.
-use Prim.Native.Nat.{ℕ, _+_, _*_}
-use mathlib.Core.List.{List}
+use Prim.Native.Nat.{ℕ, _+_, _*_, _-_}
+use mathlib.Core.List.{List, _∷_}
 use mathlib.Core.Bool.{Bool, not, _&&_}
-use lib.ListN.{length, getD}
+use lib.ListN.{length, getD, replicate}
 use lib.Dec.{leb}
 use Rattle.records.specs.declared.Assembler.{Assembler}
 use Rattle.records.specs.declared.record.StoredSection.{StoredSection}
@@ -46,6 +46,10 @@ wordsAt w words i = record { kind = getD words (w * i) 0; first = getD words (w 
 -- 'three words a section': those of section i of a store
 abbrev pub sectionWords : ℕ → Store → ℕ → StoredSection
 sectionWords w st i = wordsAt w (st .words) i
+
+-- the words of a record, with 0 in those past the third
+abbrev pub recordWords : ℕ → StoredSection → List ℕ
+recordWords w r = r .kind ∷ r .first ∷ r .second ∷ replicate (w - 3) 0
 
 -- counts beyond slices or limits
 unfoldable pub badCounts : ℕ → Store → Bool

@@ -1,4 +1,4 @@
-// Document 01, module 2: the store's two counts and their limits, one section read from its words or put into words, and the
+// Document 01, module 2: the store's two counts and their limits, one section read from its words, put into words or written, and the
 // tests for number 6. Knows nothing of offset tables or passes.
 mod damage;
 pub mod kind;
@@ -14,6 +14,7 @@ pub use record::form_of;
 pub use record::read_section;
 pub use record::reference_words;
 pub use record::set_size_of;
+pub use record::write_words;
 ghost use mathlib.Core.Path.{_≡_};
 ghost use Rattle.records.specs.Store.{emptyCounts};
 

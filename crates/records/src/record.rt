@@ -1,4 +1,4 @@
-// One section: read from its three words, and a reference put into words.
+// One section: read from its three words, a reference put into words, and three words written.
 use crate::Assembler;
 use crate::kind;
 use units::AsmBytesIdx;
@@ -11,8 +11,11 @@ use units::RefSize;
 use units::SetSize;
 use units::form;
 ghost use mathlib.Core.Path.{_≡_};
+ghost use Prim.Native.Nat.{_*_};
+ghost use Rattle.slices.specs.Over.{overIfRoom};
 ghost use Rattle.records.specs.Record.{readSection, readMark, readSpan, readDirect, readDelta, readRef, setSizeOf};
-ghost use Rattle.records.specs.Record.{referenceWords, formOf};
+ghost use Rattle.records.specs.Record.{referenceWords, formOf, storedSection};
+ghost use Rattle.records.specs.Store.{wordsPerSection, recordWords};
 
 // A section as it is read back.
 pub enum AsmSection {
@@ -176,6 +179,20 @@ pub fn reference_words(r: AsmReference) -> StoredSection
             first: span.start.0,
             second: span.end.0,
         },
+    }
+}
+
+// Writes the three words of section i, if there is room for them; else nothing changes. A caller that has tested the room in these
+// words pays for no second test.
+pub fn write_words(words: &mut [u32], i: u32, kind: u32, first: u32, second: u32)
+    ensures { λ _. ⌜ now (words .exit) ≡ overIfRoom (now (words .entry)) (wordsPerSection * i)
+        (recordWords wordsPerSection (storedSection kind first second)) ⌝ }
+{
+    let at = Assembler::WORDS * (i as usize);
+    if at + Assembler::WORDS <= words.len() {
+        words[at] = kind;
+        words[at + 1] = first;
+        words[at + 2] = second;
     }
 }
 

@@ -8,16 +8,15 @@ use mathlib.Core.List.{List, [], _∷_}
 use lib.Dec.{leb, ltb, eqb}
 use lib.ListN.{length, set}
 use borrow.Author.Tests.{le-leb, le-ltb, lt-ltb, eq-eqb, ne-eqb, eqb-true, eqb-false}
-use Rattle.records.specs.Record.{opsKind, dataKind}
-use Rattle.records.specs.Store.{Store, maxBytes, maxSections, sectionWords, badCounts, wordsPerSection}
+use Rattle.records.specs.Record.{opsKind, dataKind, storedSection}
+use Rattle.records.specs.Store.{Store, maxBytes, maxSections, sectionWords, badCounts, wordsPerSection, recordWords}
 use Rattle.records.specs.Damage.{brokenLast, lastBroken, badCountBuilding, lastSoundness}
 use Rattle.records.specs.Sections.{Section, ops}
 use Rattle.records.specs.declared.record.StoredSection.{StoredSection}
 use Rattle.records.specs.declared.damage.Soundness.the-variants.{Sound}
 use Rattle.slices.specs.Over.{over}
 use Rattle.slices.proofs.Over.{over-one}
-use Rattle.calls.specs.Calls.{BuiltReply, bytesOf, extends, recordWords, bytesPass, joins, noSectionLeft}
-use Rattle.calls.specs.Alone.{storedSection}
+use Rattle.calls.specs.Calls.{BuiltReply, bytesOf, extends, bytesPass, joins, noSectionLeft}
 use Rattle.calls.proofs.Rooms.{left-slice}
 use Rattle.calls.proofs.Alone.{words-appended, words-keep-bytes}
 use Rattle.numbers.specs.Numbers.{packed, storeIn, builtNumber}

@@ -5,10 +5,9 @@ ghost use mathlib.Core.Path.{_≡_};
 ghost use mathlib.Core.Bool.{true, false};
 ghost use Prim.Native.Nat.{_+_, _*_, _≤_};
 ghost use lib.ListN.{length};
-ghost use Rattle.records.specs.Record.{maxMark, readSection};
+ghost use Rattle.records.specs.Record.{maxMark, readSection, storedSection};
 ghost use Rattle.records.specs.Store.{wordsPerSection, wordsAt};
 ghost use Rattle.records.specs.Damage.{unreadable, brokenLast};
-ghost use Rattle.calls.specs.Alone.{storedSection};
 ghost use Rattle.short.specs.Tests.{EndsAt};
 
 // The form of a direct reference as most are: pushed, of no set size.

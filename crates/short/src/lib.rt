@@ -17,9 +17,9 @@ ghost use mathlib.Core.Path.{_≡_};
 ghost use mathlib.Core.List.{[], _∷_};
 ghost use Prim.Native.Nat.{_<_};
 ghost use lib.ListN.{length};
+ghost use Rattle.records.specs.Record.{storedSection};
 ghost use Rattle.records.specs.Sections.{ops};
 ghost use Rattle.calls.specs.Calls.{minimalPush};
-ghost use Rattle.calls.specs.Alone.{storedSection};
 ghost use Rattle.numbers.specs.Numbers.{storeIn};
 ghost use Rattle.short.specs.Tried.{TriedSection, TriedWords, dataSection, spanSection};
 

@@ -4,24 +4,20 @@ use records::Assembler;
 ghost use mathlib.Core.Path.{_≡_};
 ghost use Prim.Native.Nat.{_+_, _*_, _/_, _%_, _^_, _≤_, _<_};
 ghost use lib.ListN.{length};
+ghost use Rattle.records.specs.Record.{storedSection};
 ghost use Rattle.units.specs.Numbers.{bigEndian, leastBytes};
-ghost use Rattle.records.specs.Store.{maxSections, wordsPerSection};
+ghost use Rattle.records.specs.Store.{maxSections, wordsPerSection, recordWords};
 ghost use Rattle.slices.specs.Over.{over};
-ghost use Rattle.calls.specs.Calls.{recordWords};
-ghost use Rattle.calls.specs.Alone.{storedSection};
 ghost use Rattle.short.specs.Tests.{endMoved};
 
-// The words of one section more; the next state. As `append_section` of `adding`, which is private too: a public one would test the index.
+// The words of one section more; the next state. That there is room was tested in the words that the writer tests it in, so its test folds away.
 pub(crate) fn append_words(state: u64, words: &mut [u32], kind: u32, first: u32, second: u32) -> u64
     requires { ⌜ (state / 2 ^ 32 < maxSections) × (wordsPerSection * (state / 2 ^ 32 + 1) ≤ length (now words)) ⌝ }
     ensures state { λ r. ⌜ r ≡ state + 2 ^ 32 ⌝ }
     ensures words { λ _. ⌜ now (words .exit) ≡ over (now (words .entry)) (wordsPerSection * (state / 2 ^ 32))
         (recordWords wordsPerSection (storedSection kind first second)) ⌝ }
 {
-    let at = Assembler::WORDS * ((state / SECTION) as usize);
-    words[at] = kind;
-    words[at + 1] = first;
-    words[at + 2] = second;
+    records::write_words(words, (state / SECTION) as u32, kind, first, second);
     state + SECTION
 }
 

@@ -9,16 +9,17 @@ use mathlib.Core.Bool.{false}
 use mathlib.Core.List.{List}
 use lib.ListN.{length}
 use denote.Ref.{now}
+use Rattle.records.specs.Record.{storedSection}
 use Rattle.slices.specs.Over.{over}
 use Rattle.slices.proofs.Over.{has-room}
 use Rattle.records.specs.declared.Assembler.{Assembler}
 use Rattle.records.specs.declared.damage.Soundness.the-variants.{Sound}
-use Rattle.records.specs.Store.{Store, storeOf, wordsPerSection, maxBytes}
+use Rattle.records.specs.Store.{Store, storeOf, wordsPerSection, maxBytes, recordWords}
 use Rattle.records.specs.Sections.{Section}
 use Rattle.records.specs.Damage.{lastSoundness}
 use Rattle.records.proofs.Damages.{good-words}
-use Rattle.calls.specs.Calls.{recordWords, joins, bytesPass, noSectionLeft}
-use Rattle.calls.specs.Alone.{storedSection}
+use Rattle.records.proofs.Writing.{record-room}
+use Rattle.calls.specs.Calls.{joins, bytesPass, noSectionLeft}
 use Rattle.calls.proofs.Rooms.{sound-counts, left-fits}
 use Rattle.numbers.specs.Numbers.{storeIn}
 use Rattle.numbers.proofs.Adds.{Adds, add-damaged, add-bytes-full, add-sections-full}
@@ -228,10 +229,8 @@ cast-write-bytes-2 c = search needs
 write-bytes-requires-2 : tie.Need-write-bytes-requires-2
 write-bytes-requires-2 c κs = search needs
 
-append-section-requires : tie.Need-append-section-requires
-append-section-requires c κs =
-    let free = c .before .before .before .before .before in
-    left-fits wordsPerSection _ _ (left free) .1
+write-words-requires : tie.Need-write-words-requires
+write-words-requires c κs = search needs
 
 add-t23 : tie.Need-add-t23
 add-t23 c =
@@ -262,6 +261,7 @@ returns-5 c =
     bytes-appended wordsPerSection (a .kind) (now (a .added)) st (sound (tested fits)) (room fits)
     (sym (joining found) ∙ free .before .before .before .if2 .left) (left free)
     in
+    let recorded = record-room (st .words) (st .sections) _ (left-fits wordsPerSection _ _ (left free) .1) in
     let named =
     ap
     (λ (k : ℕ).
@@ -270,7 +270,7 @@ returns-5 c =
     (found .before .before .kind-number .ensures)
     in
     by-state at-counts _ _ _
-    (c .state-of2 .ensures ∙ all .0, (wrote .write-bytes2 .ensures ∙ whole ∙ all .1 .0, appended .append-section .ensures ∙ named ∙ all .1 .1))
+    (c .state-of2 .ensures ∙ all .0, (wrote .write-bytes2 .ensures ∙ whole ∙ all .1 .0, appended .write-words .ensures ∙ recorded ∙ named ∙ all .1 .1))
 
 pub add-bytes-spec : {M : Type 1} → statement M
 add-bytes-spec =
@@ -307,7 +307,7 @@ add-bytes-spec =
     returns-4
     cast-write-bytes-2
     write-bytes-requires-2
-    append-section-requires
+    write-words-requires
     add-t23
     state-of-requires-2
     same-length-9

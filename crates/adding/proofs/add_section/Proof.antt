@@ -7,13 +7,15 @@ use mathlib.Core.Path.{_≡_, sym, ap, _∙_, subst}
 use mathlib.Core.Bool.{false}
 use mathlib.Core.List.{List}
 use denote.Ref.{now}
+use Rattle.records.specs.Record.{storedSection}
+use Rattle.records.proofs.Writing.{record-room}
 use Rattle.records.specs.declared.Assembler.{Assembler}
 use Rattle.records.specs.declared.record.StoredSection.{StoredSection}
 use Rattle.records.specs.declared.damage.Soundness.the-variants.{Sound}
 use Rattle.records.specs.Store.{Store, storeOf, wordsPerSection}
 use Rattle.records.specs.Damage.{lastSoundness}
 use Rattle.calls.specs.Calls.{BuiltReply, noSectionLeft}
-use Rattle.calls.specs.Alone.{storedSection, wordsReply, wordsAfter}
+use Rattle.calls.specs.Alone.{wordsReply, wordsAfter}
 use Rattle.calls.proofs.Rooms.{left-fits}
 use Rattle.calls.proofs.Alone.{AddsWords, words-damaged, words-full, words-appended}
 use Rattle.numbers.specs.Numbers.{storeIn, builtNumber}
@@ -109,8 +111,8 @@ returns-2 c =
     in
     by-state at-counts _ _ _ (c .refusal-number2 .ensures) all
 
-append-section-requires : tie.Need-append-section-requires
-append-section-requires c κs = left-fits wordsPerSection _ _ (left (c .before)) .1
+write-words-requires : tie.Need-write-words-requires
+write-words-requires c κs = search needs
 
 add-t21 : tie.Need-add-t21
 add-t21 c =
@@ -129,7 +131,8 @@ returns-3 c =
     let free = wrote .before .before in
     let at-counts = counts free in
     let all = words-appended wordsPerSection (words-of (entry at-counts)) (store-at at-counts) (sound (tested free)) (left free) in
-    by-state at-counts _ _ _ (c .state-of .ensures) (all .0, wrote .append-section .ensures ∙ all .1)
+    let room = record-room _ _ (words-of (entry at-counts)) (left-fits wordsPerSection _ _ (left free) .1) in
+    by-state at-counts _ _ _ (c .state-of .ensures) (all .0, wrote .write-words .ensures ∙ room ∙ all .1)
 
 pub add-section-spec : {M : Type 1} → statement M
 add-section-spec =
@@ -146,7 +149,7 @@ add-section-spec =
     refusal-number-requires-2
     same-length-2
     returns-2
-    append-section-requires
+    write-words-requires
     add-t21
     state-of-requires
     same-length-3

@@ -5,9 +5,9 @@ use mathlib.Core.Path.{refl}
 use borrow.Author.Needs.{needs}
 use borrow.Author.Tests.{not-false}
 use denote.Ref.{now}
+use Rattle.records.specs.Record.{storedSection}
 use Rattle.records.specs.Store.{Store, wordsPerSection}
 use Rattle.numbers.specs.Numbers.{storeIn}
-use Rattle.calls.specs.Alone.{storedSection}
 use Rattle.short.specs.Tests.{Takes}
 use Rattle.short.proofs.Ways.{nothing-tried, tried-as, words-put}
 use Rattle.short.proofs.put_section.Statement.{statement}

@@ -8,10 +8,9 @@ use mathlib.Core.Bool.{true}
 use lib.Dec.{leb}
 use borrow.Author.Tests.{not-true, not-false}
 use Rattle.units.specs.declared.AsmReference.{AsmReference}
-use Rattle.records.specs.Record.{setSizeOf, referenceWords}
+use Rattle.records.specs.Record.{setSizeOf, referenceWords, storedSection}
 use Rattle.records.specs.Store.{wordsPerSection}
 use Rattle.calls.specs.Calls.{pushReference}
-use Rattle.calls.specs.Alone.{storedSection}
 use Rattle.numbers.specs.Numbers.{storeIn}
 use Rattle.numbers.specs.Forms.{delta, formed, isForm}
 use Rattle.numbers.proofs.Adds.{push-large-mark}

@@ -2,7 +2,7 @@
 -- Assumes nothing.
 use borrow.Author.Needs.{needs}
 use denote.Ref.{now}
-use Rattle.calls.specs.Alone.{storedSection}
+use Rattle.records.specs.Record.{storedSection}
 use Rattle.short.proofs.Judged.{words-judged}
 use Rattle.building.proofs.section.push_words.Statement.{statement}
 use Rattle.building.proofs.section.push_words.Tie as tie
