@@ -182,8 +182,8 @@ pub fn reference_words(r: AsmReference) -> StoredSection
     }
 }
 
-// Writes the three words of section i, if there is room for them; else nothing changes. A caller that has tested the room in these
-// words pays for no second test.
+// Writes the three words of section i, if there is room for them; else nothing changes. The room is tested as the short ways test it, so
+// that for them this test folds away.
 pub fn write_words(words: &mut [u32], i: u32, kind: u32, first: u32, second: u32)
     ensures { λ _. ⌜ now (words .exit) ≡ overIfRoom (now (words .entry)) (wordsPerSection * i)
         (recordWords wordsPerSection (storedSection kind first second)) ⌝ }

@@ -1,45 +1,18 @@
-// The steps that make a building call, one function for each kind. Each answers the store after it.
+// The steps that make a building call. Each answers the store after it.
 ghost use Prim.Native.Nat.{_≤_};
 use crate::printing::bad_step;
 use crate::printing::say_built;
 use crate::script::Step;
+use numbers::formed;
+use numbers::is_form;
 use records::Assembler;
 use store::Built;
-use units::AsmReference;
 use units::MarkId;
 use units::MarkReference;
 use units::MarkSpan;
-use units::RefSize;
-use units::SetSize;
 
 // The first kind of a delta; the form is added to it.
 const DELTA: u8 = 32;
-
-// A listed form is a set size, and whether it is pushed.
-enum FormRead {
-    Form(SetSize, bool),
-    Unlisted,
-}
-
-// A set size from its number, 0 to 4.
-fn set_size(n: u32) -> SetSize {
-    match n {
-        0 => SetSize::Unsized,
-        1 => SetSize::Sized(RefSize::S1),
-        2 => SetSize::Sized(RefSize::S2),
-        3 => SetSize::Sized(RefSize::S3),
-        _ => SetSize::Sized(RefSize::S4),
-    }
-}
-
-// A form: the set size (0 if unsized, else 1 to 4) plus 8 if pushed.
-fn read_form(n: u32) -> FormRead {
-    match n {
-        0..=4 => FormRead::Form(set_size(n), false),
-        8..=12 => FormRead::Form(set_size(n - 8), true),
-        _ => FormRead::Unlisted,
-    }
-}
 
 // A reference with a form that may be unlisted.
 fn refer(
@@ -49,15 +22,13 @@ fn refer(
     bytes: &[u8],
     words: &mut [u32],
 ) -> Assembler {
-    let FormRead::Form(set_size, pushed) = read_form(form) else {
+    if !is_form(form) {
         return bad_step(store);
-    };
-    let reference = AsmReference {
-        mark_ref,
-        set_size,
-        pushed,
-    };
-    say_built(store, store::push_reference(store, bytes, words, reference))
+    }
+    say_built(
+        store,
+        store::push_reference(store, bytes, words, formed(mark_ref, form)),
+    )
 }
 
 // Kind 1: a mark of number a.
@@ -65,53 +36,43 @@ fn mark(store: Assembler, a: u32, bytes: &[u8], words: &mut [u32]) -> Assembler 
     say_built(store, store::push_mark(store, bytes, words, MarkId(a)))
 }
 
-// Kind 2: the op byte a.
-fn op_byte(store: Assembler, a: u32, bytes: &mut [u8], words: &mut [u32]) -> Assembler {
+// Kinds 2, 5 and 6: the op byte a, a swap or a dup of depth a.
+fn byte_call(store: Assembler, kind: u8, a: u32, bytes: &mut [u8], words: &mut [u32]) -> Assembler {
     if a > 255 {
         return bad_step(store);
     }
-    say_built(store, store::push_op_byte(store, bytes, words, a as u8))
+    let byte = a as u8;
+    match kind {
+        5 => say_built(store, store::push_swap(store, bytes, words, byte)),
+        6 => say_built(store, store::push_dup(store, bytes, words, byte)),
+        _ => say_built(store, store::push_op_byte(store, bytes, words, byte)),
+    }
 }
 
-// Kind 3: pool bytes a to b as data.
-fn data_bytes(
+// Kinds 3 and 8: pool bytes a to b as data, or a minimal push of them, which are a word if they are 32.
+fn pool_call(
     store: Assembler,
-    a: u32,
-    b: u32,
+    step: Step,
     pool: &[u8],
     bytes: &mut [u8],
     words: &mut [u32],
 ) -> Assembler {
-    let from = a as usize;
-    let to = b as usize;
+    let from = step.a as usize;
+    let to = step.b as usize;
     if from > to || to > pool.len() {
         return bad_step(store);
     }
-    say_built(
-        store,
-        store::push_data(store, bytes, words, &pool[from..to]),
-    )
+    let part = &pool[from..to];
+    let kind = step.kind;
+    match kind {
+        8 => say_built(store, store::push_minimal_u256(store, bytes, words, part)),
+        _ => say_built(store, store::push_data(store, bytes, words, part)),
+    }
 }
 
 // Kind 4: a direct reference to mark a with form b.
 fn direct(store: Assembler, a: u32, b: u32, bytes: &[u8], words: &mut [u32]) -> Assembler {
     refer(store, MarkReference::Direct(MarkId(a)), b, bytes, words)
-}
-
-// Kind 5: a swap of depth a.
-fn swap(store: Assembler, a: u32, bytes: &mut [u8], words: &mut [u32]) -> Assembler {
-    if a > 255 {
-        return bad_step(store);
-    }
-    say_built(store, store::push_swap(store, bytes, words, a as u8))
-}
-
-// Kind 6: a dup of depth a.
-fn dup(store: Assembler, a: u32, bytes: &mut [u8], words: &mut [u32]) -> Assembler {
-    if a > 255 {
-        return bad_step(store);
-    }
-    say_built(store, store::push_dup(store, bytes, words, a as u8))
 }
 
 // Kind 7: an exchange of a and b.
@@ -122,26 +83,6 @@ fn exchange(store: Assembler, a: u32, b: u32, bytes: &mut [u8], words: &mut [u32
     say_built(
         store,
         store::push_exchange(store, bytes, words, a as u8, b as u8),
-    )
-}
-
-// Kind 8: a minimal push of pool bytes a to b, which are a word if they are 32.
-fn minimal_u256(
-    store: Assembler,
-    a: u32,
-    b: u32,
-    pool: &[u8],
-    bytes: &mut [u8],
-    words: &mut [u32],
-) -> Assembler {
-    let from = a as usize;
-    let to = b as usize;
-    if from > to || to > pool.len() {
-        return bad_step(store);
-    }
-    say_built(
-        store,
-        store::push_minimal_u256(store, bytes, words, &pool[from..to]),
     )
 }
 
@@ -177,13 +118,10 @@ pub(crate) fn build(
     let b = step.b;
     match kind {
         1 => mark(store, a, bytes, words),
-        2 => op_byte(store, a, bytes, words),
-        3 => data_bytes(store, a, b, pool, bytes, words),
+        2 | 5 | 6 => byte_call(store, kind, a, bytes, words),
+        3 | 8 => pool_call(store, step, pool, bytes, words),
         4 => direct(store, a, b, bytes, words),
-        5 => swap(store, a, bytes, words),
-        6 => dup(store, a, bytes, words),
         7 => exchange(store, a, b, bytes, words),
-        8 => minimal_u256(store, a, b, pool, bytes, words),
         9 => minimal_u64(store, a, b, bytes, words),
         10 => minimal_u32(store, a, bytes, words),
         11 => clear(store),

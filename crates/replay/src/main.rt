@@ -13,43 +13,25 @@ use records::Assembler;
 use script::HEADER_BYTES;
 use script::Header;
 use script::HeaderRead;
-use script::MAX_BYTES;
-use script::MAX_LISTING;
 use script::MAX_RESULT;
 use script::MAX_SCRIPT;
-use script::MAX_TABLE;
 use script::MAX_WORDS;
 use script::STEP_BYTES;
 use script::Step;
 
-// Room for one byte more than the longest script, so that a longer one is seen.
-fn input_buffer() -> [u8; MAX_SCRIPT + 1] {
+// Room for the longest listing, and for one byte more than the longest script, so that a longer one is seen.
+fn text_buffer() -> [u8; MAX_SCRIPT + 1] {
     [0u8; MAX_SCRIPT + 1]
 }
 
-// The longest byte slice.
-fn byte_buffer() -> [u8; MAX_BYTES] {
-    [0u8; MAX_BYTES]
-}
-
-// The longest word slice.
-fn word_buffer() -> [u32; MAX_WORDS] {
-    [0u32; MAX_WORDS]
-}
-
-// The longest offset table.
-fn table_buffer() -> [u32; MAX_TABLE] {
-    [0u32; MAX_TABLE]
-}
-
-// The longest result.
-fn result_buffer() -> [u8; MAX_RESULT] {
+// Room for the longest byte slice and the longest result.
+fn byte_buffer() -> [u8; MAX_RESULT] {
     [0u8; MAX_RESULT]
 }
 
-// The longest listing buffer.
-fn text_buffer() -> [u8; MAX_LISTING] {
-    [0u8; MAX_LISTING]
+// Room for the longest word slice and the longest offset table.
+fn word_buffer() -> [u32; MAX_WORDS] {
+    [0u32; MAX_WORDS]
 }
 
 // One step: the store after it. The slices change as its call says.
@@ -108,8 +90,8 @@ fn run_good(script: &[u8], header: Header)
     let steps = HEADER_BYTES + header.pool;
     let mut bytes = byte_buffer();
     let mut words = word_buffer();
-    let mut table = table_buffer();
-    let mut result = result_buffer();
+    let mut table = word_buffer();
+    let mut result = byte_buffer();
     let mut text = text_buffer();
     run_steps(
         &script[HEADER_BYTES..steps],
@@ -132,7 +114,7 @@ fn run(script: &[u8]) {
 }
 
 fn main() {
-    let mut input = input_buffer();
+    let mut input = text_buffer();
     let n = io::read_full(libc::STDIN_FILENO, &mut input);
     run(&input[..n]);
 }

@@ -10,7 +10,7 @@ ghost use Rattle.records.specs.Store.{maxSections, wordsPerSection, recordWords
 ghost use Rattle.slices.specs.Over.{over};
 ghost use Rattle.short.specs.Tests.{endMoved};
 
-// The words of one section more; the next state. That there is room was tested in the words that the writer tests it in, so its test folds away.
+// The words of one section more; the next state. The short ways test the room as `write_words` does, so that its own test folds away.
 pub(crate) fn append_words(state: u64, words: &mut [u32], kind: u32, first: u32, second: u32) -> u64
     requires { ⌜ (state / 2 ^ 32 < maxSections) × (wordsPerSection * (state / 2 ^ 32 + 1) ≤ length (now words)) ⌝ }
     ensures state { λ r. ⌜ r ≡ state + 2 ^ 32 ⌝ }

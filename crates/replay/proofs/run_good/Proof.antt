@@ -14,11 +14,11 @@ byte-buffer-requires c κs = search needs
 word-buffer-requires : tie.Need-word-buffer-requires
 word-buffer-requires c κs = search needs
 
-table-buffer-requires : tie.Need-table-buffer-requires
-table-buffer-requires c κs = search needs
+word-buffer-requires-2 : tie.Need-word-buffer-requires-2
+word-buffer-requires-2 c κs = search needs
 
-result-buffer-requires : tie.Need-result-buffer-requires
-result-buffer-requires c κs = search needs
+byte-buffer-requires-2 : tie.Need-byte-buffer-requires-2
+byte-buffer-requires-2 c κs = search needs
 
 text-buffer-requires : tie.Need-text-buffer-requires
 text-buffer-requires c κs = search needs
@@ -84,8 +84,8 @@ run-good-spec =
     add-steps
     byte-buffer-requires
     word-buffer-requires
-    table-buffer-requires
-    result-buffer-requires
+    word-buffer-requires-2
+    byte-buffer-requires-2
     text-buffer-requires
     sub-run-steps
     part-run-steps-start
