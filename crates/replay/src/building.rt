@@ -31,11 +31,6 @@ fn refer(
     )
 }
 
-// Kind 1: a mark of number a.
-fn mark(store: Assembler, a: u32, bytes: &[u8], words: &mut [u32]) -> Assembler {
-    say_built(store, store::push_mark(store, bytes, words, MarkId(a)))
-}
-
 // Kinds 2, 5 and 6: the op byte a, a swap or a dup of depth a.
 fn byte_call(store: Assembler, kind: u8, a: u32, bytes: &mut [u8], words: &mut [u32]) -> Assembler {
     if a > 255 {
@@ -70,11 +65,6 @@ fn pool_call(
     }
 }
 
-// Kind 4: a direct reference to mark a with form b.
-fn direct(store: Assembler, a: u32, b: u32, bytes: &[u8], words: &mut [u32]) -> Assembler {
-    refer(store, MarkReference::Direct(MarkId(a)), b, bytes, words)
-}
-
 // Kind 7: an exchange of a and b.
 fn exchange(store: Assembler, a: u32, b: u32, bytes: &mut [u8], words: &mut [u32]) -> Assembler {
     if a > 255 || b > 255 {
@@ -95,17 +85,7 @@ fn minimal_u64(store: Assembler, a: u32, b: u32, bytes: &mut [u8], words: &mut [
     say_built(store, store::push_minimal_u64(store, bytes, words, value))
 }
 
-// Kind 10: a minimal push of a.
-fn minimal_u32(store: Assembler, a: u32, bytes: &mut [u8], words: &mut [u32]) -> Assembler {
-    say_built(store, store::push_minimal_u32(store, bytes, words, a))
-}
-
-// Kind 11: both counts to 0.
-fn clear(store: Assembler) -> Assembler {
-    say_built(store, Built::Stored(store.clear()))
-}
-
-// Kinds 1 to 11.
+// Kinds 1 to 11. Kind 1: a mark of number a; 4: a direct reference to mark a with form b; 10: a minimal push of a; 11: both counts to 0.
 pub(crate) fn build(
     store: Assembler,
     step: Step,
@@ -117,14 +97,14 @@ pub(crate) fn build(
     let a = step.a;
     let b = step.b;
     match kind {
-        1 => mark(store, a, bytes, words),
+        1 => say_built(store, store::push_mark(store, bytes, words, MarkId(a))),
         2 | 5 | 6 => byte_call(store, kind, a, bytes, words),
         3 | 8 => pool_call(store, step, pool, bytes, words),
-        4 => direct(store, a, b, bytes, words),
+        4 => refer(store, MarkReference::Direct(MarkId(a)), b, bytes, words),
         7 => exchange(store, a, b, bytes, words),
         9 => minimal_u64(store, a, b, bytes, words),
-        10 => minimal_u32(store, a, bytes, words),
-        11 => clear(store),
+        10 => say_built(store, store::push_minimal_u32(store, bytes, words, a)),
+        11 => say_built(store, Built::Stored(store.clear())),
         _ => bad_step(store),
     }
 }

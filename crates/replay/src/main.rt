@@ -107,7 +107,7 @@ fn run_good(script: &[u8], header: Header)
 // A whole script.
 fn run(script: &[u8]) {
     let HeaderRead::Good(header) = script::read_header(script) else {
-        printing::bad_script();
+        printing::say(b"bad script\n");
         return;
     };
     run_good(script, header);

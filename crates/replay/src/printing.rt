@@ -15,10 +15,6 @@ fn say_number(n: u32) {
     io::print_decimal(STDOUT_FILENO, n as u64);
 }
 
-pub(crate) fn bad_script() {
-    say(b"bad script\n");
-}
-
 // A step that changes nothing: the store as it was.
 pub(crate) fn bad_step(store: Assembler) -> Assembler {
     say(b"bad step\n");

@@ -60,13 +60,6 @@ fn number_at(script: &[u8], at: usize) -> u32
     b0 * 16777216 + b1 * 65536 + b2 * 256 + b3
 }
 
-// The same, as a length.
-fn length_at(script: &[u8], at: usize) -> usize
-    requires { ⌜ at + 4 ≤ length (now script) ⌝ }
-{
-    number_at(script, at) as usize
-}
-
 // The header, or that the script is bad.
 pub(crate) fn read_header(script: &[u8]) -> HeaderRead
     ensures { λ r. ⌜ goodIsLendable (length (now (script .entry))) r ⌝ }
@@ -74,12 +67,12 @@ pub(crate) fn read_header(script: &[u8]) -> HeaderRead
     if script.len() < HEADER_BYTES || script.len() > MAX_SCRIPT {
         return HeaderRead::Bad;
     }
-    let bytes = length_at(script, 0);
-    let words = length_at(script, 4);
-    let table = length_at(script, 8);
-    let result = length_at(script, 12);
-    let listing = length_at(script, 16);
-    let pool = length_at(script, 20);
+    let bytes = number_at(script, 0) as usize;
+    let words = number_at(script, 4) as usize;
+    let table = number_at(script, 8) as usize;
+    let result = number_at(script, 12) as usize;
+    let listing = number_at(script, 16) as usize;
+    let pool = number_at(script, 20) as usize;
     if bytes > MAX_BYTES || words > MAX_WORDS || table > MAX_TABLE {
         return HeaderRead::Bad;
     }

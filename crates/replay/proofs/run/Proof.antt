@@ -14,8 +14,11 @@ enum-known-header c = search needs
 enum-told : tie.Need-enum-told
 enum-told c = search needs
 
-bad-script-requires : tie.Need-bad-script-requires
-bad-script-requires c κs = search needs
+slice-aggregate-say : tie.Need-slice-aggregate-say
+slice-aggregate-say c = search needs
+
+say-requires : tie.Need-say-requires
+say-requires c κs = search needs
 
 returns : tie.Need-returns
 returns c = search needs
@@ -33,7 +36,8 @@ run-spec =
     read-header-requires
     enum-known-header
     enum-told
-    bad-script-requires
+    slice-aggregate-say
+    say-requires
     returns
     run-good-requires
     returns-2)
