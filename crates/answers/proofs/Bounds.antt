@@ -22,7 +22,6 @@ use Rattle.undamaged.proofs.Soundness.{undamaged-iff, damaged-at-iff}
 use Rattle.layout.specs.Passes.{entry, valueBy, Walked, leftAt, walkFrom, pass}
 use Rattle.layout.specs.Answer as layout
 use Rattle.layout.specs.Answer.{laidOut, noLayout, Says}
-use Rattle.layout.proofs.Answers.{answer-law}
 use Rattle.settling.specs.Settle.{settlement}
 use Rattle.settling.proofs.Sections.{decode-count}
 use Rattle.assembler.proofs.Places.{still-sum, sizes-five}
@@ -30,7 +29,8 @@ use Rattle.assembler.specs.Assemble.{assembly}
 use Rattle.assembler.specs.AssemblyAnswers as answer
 use Rattle.assembler.specs.AssemblyAnswers.{AssemblyAnswer, assemblyReply, AnswerSays}
 use Rattle.settling.proofs.Decoded.{stored-small}
-use Rattle.assembler.proofs.Laid.{laid, sound-settles}
+use Rattle.settling.proofs.SettlingLaw.{sound-answered}
+use Rattle.assembler.proofs.Laid.{laid}
 use Rattle.assembler.proofs.AssemblyAnswers.{assembly-answers, assembly-law}
 use Rattle.listing.specs.Listing.{listing}
 use Rattle.listing.specs.Answer.{replyFor, listingReply}
@@ -74,7 +74,7 @@ module _ (w : ℕ) (st : Store) (n : ℕ) where
   -- a code's length
   code-below : (table : List ℕ) (size k : ℕ) → Undamaged w st → Says n (decode w st) (laidOut table size k) → size < 2 ^ 32
   code-below table size k u says =
-      let settles = sound-settles w n st u ∙ ap (settlement n Sound) (answer-law n (decode w st) (laidOut table size k) .1 says) in
+      let settles = sound-answered w n st (laidOut table size k) u says in
       let l = laid w n st table size k settles in
       omega (arith, still-sum (entry table) (decode w st) 0 size (l .still), sizes-five (entry table) (decode w st), stored-small w st (l .facts))
 

@@ -11,43 +11,33 @@ use Rattle.units.specs.Replies as number
 use Rattle.units.specs.Reply.{Reply, accepted, refused}
 use Rattle.records.specs.Store.{Store}
 use Rattle.records.specs.Sections.{decode}
-use Rattle.records.specs.Damage.{wholeSoundness}
-use Rattle.records.specs.declared.damage.Soundness.{Soundness}
-use Rattle.records.specs.declared.damage.Soundness.the-variants as soundness
-use Rattle.undamaged.specs.View.{Undamaged}
-use Rattle.undamaged.proofs.Soundness.{damaged-at-iff}
 use Rattle.layout.specs.Passes.{entry}
 use Rattle.layout.specs.Answer as layout
-use Rattle.layout.proofs.Answers.{answer-law}
-use Rattle.settling.specs.Settle.{Settlement, settlement, settling}
+use Rattle.settling.specs.SettlingAnswers as settling
+use Rattle.settling.specs.SettlingAnswers.{SettlingSays}
+use Rattle.settling.proofs.SettlingLaw.{refusalAt, sound-answered, settling-said, settling-law}
 use Rattle.assembler.specs.Assemble.{Outcome, isFull, assembly}
 use Rattle.assembler.specs.AssemblyAnswers.{AssemblyAnswer, written, damaged, noLayout, resultFull, assemblyReply, AnswerSays, CodePasses}
 use Rattle.assembler.specs.Emission.{codeOf}
 use Rattle.assembler.proofs.Outcomes.{outcome-refused, outcome-full, outcome-written, fits-law, full-law}
-use Rattle.assembler.proofs.Laid.{sound-settles, laid}
+use Rattle.assembler.proofs.Laid.{laid}
 
 -- ---- a reply tells the answer
 
--- the refusal that a number, a section and passes stand for
-refusalAt : ℕ → ℕ → ℕ → AssemblyAnswer
-refusalAt number i k =
-    cond (eqb number 6) (damaged i)
-    (cond (eqb number 7) (noLayout (layout.shortTable i))
-    (cond (eqb number 8) (noLayout (layout.unplaced i))
-    (cond (eqb number 9) (noLayout (layout.placedApart i))
-    (cond (eqb number 10) (noLayout (layout.tooNarrow i k))
-    (cond (eqb number 11) (noLayout layout.unsettled)
-    (cond (eqb number 12) (noLayout (layout.backward i k))
-    (resultFull k)))))))
+-- an answer of settling, where what is laid out is written
+abbrev ofSettling : settling.SettlingAnswer → AssemblyAnswer
+ofSettling (settling.laidOut size k) = written size k
+ofSettling (settling.damaged i) = damaged i
+ofSettling (settling.noLayout r) = noLayout r
 
 -- the answer that a reply stands for
 answerOf : Reply layout.Laid → AssemblyAnswer
 answerOf (accepted l) = written (l .length) (l .passes)
-answerOf (refused number i k) = refusalAt number i k
+answerOf (refused number i k) = cond (eqb number 13) (resultFull k) (ofSettling (refusalAt number i k))
 
 -- it comes back
 answer-back : (a : AssemblyAnswer) → answerOf (assemblyReply a) ≡ a
-unfolding answerOf refusalAt
+unfolding answerOf
 answer-back (written size k) = refl
 answer-back (damaged i) = refl
 answer-back (noLayout (layout.shortTable i)) = refl
@@ -71,49 +61,36 @@ module _ (w : ℕ) (st : Store) (n : ℕ) (result : List ℕ) (position : ℕ) w
   replied : (a : AssemblyAnswer) (o : Outcome) → assembly w st n result position ≡ o → o .reply ≡ assemblyReply a → Replied a
   replied a o e h = ap (λ (x : Outcome). x .reply) e ∙ h
 
-  -- an answer of the settling over an undamaged store
-  answered : (a : layout.Answer) → Undamaged w st → layout.Says n (decode w st) a → settling w n st ≡ settlement n soundness.Sound a
-  answered a u s = sound-settles w n st u ∙ ap (settlement n soundness.Sound) (answer-law n (decode w st) a .1 s)
-
-  -- a damaged store
-  settles-damaged : (i : ℕ) → wholeSoundness w st ≡ soundness.Damaged i → settling w n st .reply ≡ assemblyReply (damaged i)
-  unfolding settling
-  settles-damaged i e = rw e
-
   -- what is said of an answer makes it the answer
   says-replied : (a : AssemblyAnswer) → Said a → Replied a
   says-replied (written size k) h =
-      let e = answered (layout.laidOut (h .0 .0) size k) (h .0 .1) (h .0 .2) in
+      let e = sound-answered w n st (layout.laidOut (h .0 .0) size k) (h .0 .1) (h .0 .2) in
       replied (written size k) _ (outcome-written w st n result position (h .0 .0) size k e (fits-law (length result) position size .1 (h .1))) refl
   says-replied (damaged i) h =
-      replied (damaged i) _ (outcome-refused w st n result position _ _ _ (settles-damaged i (damaged-at-iff w st i .1 h))) refl
+      replied (damaged i) _ (outcome-refused w st n result position _ _ _ (settling-law w n st (settling.damaged i) .1 h)) refl
   says-replied (noLayout r) h =
-      let e = ap (λ (s : Settlement). s .reply) (answered (layout.noLayout r) (h .0) (h .1)) in
-      replied (noLayout r) _ (outcome-refused w st n result position _ _ _ e) refl
+      replied (noLayout r) _ (outcome-refused w st n result position _ _ _ (settling-law w n st (settling.noLayout r) .1 h)) refl
   says-replied (resultFull k) h =
-      let e = answered (layout.laidOut (h .1 .0) (h .0) k) (h .1 .1) (h .1 .2) in
+      let e = sound-answered w n st (layout.laidOut (h .1 .0) (h .0) k) (h .1 .1) (h .1 .2) in
       replied (resultFull k) _ (outcome-full w st n result position (h .1 .0) (h .0) k e (full-law (length result) position (h .0) .1 (h .2))) refl
 
   -- something is said of some answer: laid out
-  said-laid : (table : List ℕ) (size k : ℕ) → Undamaged w st → layout.Says n (decode w st) (layout.laidOut table size k) → (a : AssemblyAnswer) × Said a
-  said-laid table size k u s = go (isFull (length result) position size) refl
+  said-laid : (size k : ℕ) → SettlingSays w st n (settling.laidOut size k) → (a : AssemblyAnswer) × Said a
+  said-laid size k s = go (isFull (length result) position size) refl
     where
       go : (b : Bool) → isFull (length result) position size ≡ b → (a : AssemblyAnswer) × Said a
-      go true f = (resultFull k, (size, (table, u, s), full-law (length result) position size .0 f))
-      go false f = (written size k, ((table, u, s), fits-law (length result) position size .0 f))
+      go true f = (resultFull k, (size, s, full-law (length result) position size .0 f))
+      go false f = (written size k, (s, fits-law (length result) position size .0 f))
 
   -- or refused by the settling
-  said-answer : Undamaged w st → (b : layout.Answer) → layout.Says n (decode w st) b → (a : AssemblyAnswer) × Said a
-  said-answer u (layout.laidOut table size k) s = said-laid table size k u s
-  said-answer u (layout.noLayout r) s = (noLayout r, (u, s))
+  said-settling : (b : settling.SettlingAnswer) → SettlingSays w st n b → (a : AssemblyAnswer) × Said a
+  said-settling (settling.laidOut size k) s = said-laid size k s
+  said-settling (settling.damaged i) s = (damaged i, s)
+  said-settling (settling.noLayout r) s = (noLayout r, s)
 
   -- in every case
   said : (a : AssemblyAnswer) × Said a
-  said = go (wholeSoundness w st) refl
-    where
-      go : (s : Soundness) → wholeSoundness w st ≡ s → (a : AssemblyAnswer) × Said a
-      go soundness.Sound e = said-answer e (layout.answer n (decode w st)) (answer-law n (decode w st) (layout.answer n (decode w st)) .0 refl)
-      go (soundness.Damaged i) e = (damaged i, damaged-at-iff w st i .0 e)
+  said = said-settling (settling-said w n st .0) (settling-said w n st .1)
 
   -- the answer is one of them
   pub assembly-answers : (a : AssemblyAnswer) × (assembly w st n result position .reply ≡ assemblyReply a)
@@ -130,7 +107,7 @@ module _ (w : ℕ) (st : Store) (n : ℕ) (result : List ℕ) (position : ℕ) w
 
   -- 13 is answered exactly when the code or the position passes the result; its section is 0
   pub full-exactly : (i k : ℕ) → (assembly w st n result position .reply ≡ refused number.resultFull i k) ↔ ((i ≡ 0) × CodePasses w st n (length result) position k)
-  unfolding answerOf refusalAt
+  unfolding answerOf
   full-exactly i k = (there, λ (z, full). back z full)
     where
       past : (size : ℕ) → (length result < position) ⊎ (length result < position + size) → length result < position + size
@@ -148,6 +125,6 @@ module _ (w : ℕ) (st : Store) (n : ℕ) (result : List ℕ) (position : ℕ) w
           let zero : refused number.resultFull 0 k ≡ refused number.resultFull i k = sym (ap assemblyReply is) ∙ same in
           let q = subst Said is (said .1) in
           let table : List ℕ = q .1 .0 in
-          let long : length (codeOf (entry table) (decode w st)) ≡ q .0 = laid w n st table (q .0) k (answered (layout.laidOut table (q .0) k) (q .1 .1) (q .1 .2)) .codeLong in
+          let long : length (codeOf (entry table) (decode w st)) ≡ q .0 = laid w n st table (q .0) k (sound-answered w n st (layout.laidOut table (q .0) k) (q .1 .1) (q .1 .2)) .codeLong in
           let code : List ℕ = codeOf (entry table) (decode w st) in
           (cc, (table, code, refl, q .1 .1, rw long (q .1 .2), inr (rw long (q .2))))

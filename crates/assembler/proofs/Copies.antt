@@ -1,11 +1,11 @@
--- The bytes of Ops and Data in the written code, for every store. Assumes nothing.
+-- The bytes of each section in the written code, for every store. Assumes nothing.
 use Prim.Native.Nat.{ℕ, _+_, _≤_, _<_}
 use native.Mathlib.Omega.{arith}
 use mathlib.Core.Path.{_≡_, sym, _∙_, ap, subst}
 use mathlib.Core.List.{List, _++_, append-assoc}
 use lib.ListN.{length, length-append}
 use Rattle.records.specs.Store.{Store}
-use Rattle.records.specs.Sections.{Section, ops, bytes, decode}
+use Rattle.records.specs.Sections.{Section, ops, bytes, reference, decode}
 use Rattle.slices.specs.Over.{over}
 use Rattle.layout.specs.Passes.{entry}
 use Rattle.layout.specs.Conditions.{sectionAt}
@@ -37,9 +37,14 @@ module _ (ss : List Section) (table old : List ℕ) (position : ℕ) (h : positi
       subst (λ (x : Section). StandsAt (over old position (codeOf (entry table) ss)) (position + placeOf table ss i) (sectionBytes (entry table) x)) is
       (q .0, q .1, q .2, q .3)
 
-  -- so those of Ops and Data
+  -- so those of Ops, Data and references
   copies-here : CopiesHere ss table (over old position (codeOf (entry table) ss)) position
-  copies-here = record { opBytes = λ i bs l is. section-stands i (ops bs) l is; dataBytes = λ i bs l is. section-stands i (bytes bs) l is }
+  copies-here =
+      record {
+        opBytes = λ i bs l is. section-stands i (ops bs) l is;
+        dataBytes = λ i bs l is. section-stands i (bytes bs) l is;
+        refBytes = λ i r l is. section-stands i (reference r) l is;
+      }
 
 -- of assembly as it is defined
 pub assembly-copies : (w : ℕ) (st : Store) (n : ℕ) (result : List ℕ) (position : ℕ)

@@ -28,7 +28,8 @@ use Rattle.assembler.proofs.Lengths.{written-settled}
 use Rattle.assembler.specs.Assemble.{written, Outcome, assembly}
 use Rattle.assembler.specs.Demand3.{Given, Written, Shortest, Demand3}
 use Rattle.settling.proofs.Decoded.{stored-small}
-use Rattle.assembler.proofs.Laid.{sound-settles, laid, fits-room}
+use Rattle.settling.proofs.SettlingLaw.{sound-settles}
+use Rattle.assembler.proofs.Laid.{laid, fits-room}
 use Rattle.assembler.proofs.Outcomes.{LaidBy, written-same, outcome-refused, outcome-written}
 
 -- bytes that were written are found again

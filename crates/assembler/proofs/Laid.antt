@@ -35,11 +35,6 @@ use Rattle.assembler.specs.Assemble.{written, isFull}
 use Rattle.assembler.specs.Writing.{Writable}
 use Rattle.assembler.proofs.Outcomes.{LaidBy, written-same, fits-law}
 
--- an undamaged store is answered by its sections
-pub sound-settles : (w n : ℕ) (st : Store) → Undamaged w st → settling w n st ≡ settlement n Sound (answer n (decode w st))
-unfolding settling
-sound-settles w n st u = rw u
-
 -- a refused one leaves the table all 0
 pub refused-table : (w n : ℕ) (st : Store) (number i k : ℕ) → settling w n st .reply ≡ refused number i k → settling w n st .table ≡ replicate n 0
 unfolding settling

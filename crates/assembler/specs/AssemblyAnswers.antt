@@ -2,7 +2,6 @@
 -- that it is given exactly then is `assembly-law` of proofs/AssemblyAnswers. Assumes nothing.
 use Prim.Native.Nat.{ℕ, _+_, _≤_, _<_}
 use mathlib.Core.Path.{_≡_}
-use mathlib.Core.Bool.{true, false}
 use mathlib.Core.Logic.{_⊎_}
 use mathlib.Core.List.{List}
 use lib.ListN.{length}
@@ -10,10 +9,11 @@ use Rattle.units.specs.Replies as number
 use Rattle.units.specs.Reply.{Reply, accepted, refused, numbersReply}
 use Rattle.records.specs.Store.{Store}
 use Rattle.records.specs.Sections.{decode}
-use Rattle.records.specs.Damage.{badCount}
-use Rattle.undamaged.specs.View.{Undamaged, FirstBreak}
+use Rattle.undamaged.specs.View.{Undamaged}
 use Rattle.layout.specs.Passes.{entry}
 use Rattle.layout.specs.Answer as layout
+use Rattle.settling.specs.SettlingAnswers as settling
+use Rattle.settling.specs.SettlingAnswers.{SettlingSays}
 use Rattle.assembler.specs.Emission.{codeOf}
 
 -- what assembly can answer
@@ -34,19 +34,13 @@ assemblyReply (damaged i) = refused number.damaged i 0
 assemblyReply (noLayout r) = numbersReply (layout.layoutNumbers r)
 assemblyReply (resultFull k) = refused number.resultFull 0 k
 
--- the sections are laid out in so many bytes by so many passes, and 6 to 12 don't hold
-abbrev LaidOutIn : ℕ → Store → ℕ → ℕ → ℕ → Type 0
-LaidOutIn w st n size passes = (table : List ℕ) × Undamaged w st × layout.Says n (decode w st) (layout.laidOut table size passes)
-
--- the condition of each answer, room being the result's length
+-- the condition of each answer, room being the result's length; 6 to 12 as of settling
 abbrev pub AnswerSays : ℕ → Store → ℕ → ℕ → ℕ → AssemblyAnswer → Type 0
-AnswerSays w st n room position (written size k) = LaidOutIn w st n size k × (position + size ≤ room)
--- 6: a bad count, and the section is 0; or the first section that breaks a rule
-AnswerSays w st n room position (damaged i) = ((badCount w st ≡ true) × (i ≡ 0)) ⊎ ((badCount w st ≡ false) × FirstBreak w st i)
--- 7 to 12 over the sections of an undamaged store: Says, of layout/specs/Answer
-AnswerSays w st n room position (noLayout r) = Undamaged w st × layout.Says n (decode w st) (layout.noLayout r)
+AnswerSays w st n room position (written size k) = SettlingSays w st n (settling.laidOut size k) × (position + size ≤ room)
+AnswerSays w st n room position (damaged i) = SettlingSays w st n (settling.damaged i)
+AnswerSays w st n room position (noLayout r) = SettlingSays w st n (settling.noLayout r)
 -- 13: 'the code passes the result, or the position does'
-AnswerSays w st n room position (resultFull k) = (size : ℕ) × LaidOutIn w st n size k × (room < position + size)
+AnswerSays w st n room position (resultFull k) = (size : ℕ) × SettlingSays w st n (settling.laidOut size k) × (room < position + size)
 
 -- 13 once more, by the code itself: 6 to 12 don't hold, and 'the code passes the result, or the position does'. It is answered exactly
 -- then (`full-exactly` of proofs/AssemblyAnswers).

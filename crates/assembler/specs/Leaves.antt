@@ -8,7 +8,7 @@ use Rattle.records.specs.Sections.{Section}
 use Rattle.layout.specs.Passes.{entry}
 use Rattle.layout.specs.Conditions.{placed}
 
--- refused: 'leaves stores, result .. unchanged', 'leaves the offset table all 0'
+-- refused: 'leaves .. result .. unchanged', 'leaves the offset table all 0' (the store is lent to read only)
 abbrev pub LeftRefused : ℕ → List ℕ → List ℕ → List ℕ → Type 0
 LeftRefused n result table′ result′ = (table′ ≡ replicate n 0) × (result′ ≡ result)
 

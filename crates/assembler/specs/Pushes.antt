@@ -28,7 +28,7 @@ placeOf table ss i = total (take i (writtenLayout table ss .widths))
 abbrev pub IsPlace : List ℕ → List Section → ℕ → ℕ → Type 0
 IsPlace table ss m v = (placed ss m ≡ true) × ((j : ℕ) → j < length ss → sectionAt ss j ≡ mark m → placeOf table ss j ≡ v)
 
--- 'a direct reference's value is its mark's place in the written code, a delta's the difference of its marks' places'
+-- a direct reference's value is its mark's place in the written code, a delta's the difference of its marks' places
 abbrev pub ValueHere : List ℕ → List Section → MarkReference → ℕ → Type 0
 ValueHere table ss (Direct m) v = IsPlace table ss (m .0) v
 ValueHere table ss (Delta d) v = (a : ℕ) × (b : ℕ) × IsPlace table ss (d .start .0) a × IsPlace table ss (d .end .0) b × (v + a ≡ b)

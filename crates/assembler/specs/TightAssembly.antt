@@ -13,7 +13,7 @@ use Rattle.layout.specs.Tight.{Decides, SaysLeast}
 use Rattle.settling.specs.TightSettling.{FewUnsized}
 use Rattle.assembler.specs.Emission.{writtenLayout}
 
--- demand 3's premises, with 'A + B be at most 1,022' for its bound on the counts
+-- demand 3's premises, with A + B at most 1,022 for its bound on the counts
 pub record FewAndRoom (w : ℕ) (st : Store) (n : ℕ) (result : List ℕ) (position : ℕ) : Type 0 where
   pub few : FewUnsized w st n
   -- 'the position isn't past the result's end'

@@ -4,3 +4,4 @@ pub mod Shortest
 pub mod Exchanges
 pub mod TightExamples
 pub mod Line11
+pub mod Line11Plain

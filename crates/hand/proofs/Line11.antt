@@ -32,17 +32,17 @@ abbrev to : ℕ → AsmReference
 to m = unsizedPushed (Direct (record { 0 = m }))
 
 -- 'N pushed refs to marks N down to 1'
-abbrev refsDown : ℕ → List Section
+abbrev pub refsDown : ℕ → List Section
 refsDown zero = []
 refsDown (suc n) = reference (to (suc n)) ∷ refsDown n
 
 -- 'marks N down to 1, one data byte between neighbours', for n + 1 of them
-abbrev marksDown : ℕ → List Section
+abbrev pub marksDown : ℕ → List Section
 marksDown zero = mark 1 ∷ []
 marksDown (suc n) = mark (suc (suc n)) ∷ bytes (0 ∷ []) ∷ marksDown n
 
 -- 'P data bytes', 65,537 - 4 × N for N = n + 1
-abbrev filler : ℕ → List ℕ
+abbrev pub filler : ℕ → List ℕ
 filler n = replicate (65537 - 4 * suc n) 0
 
 filler-long : (n : ℕ) → length (filler n) ≡ 65537 - 4 * suc n

@@ -1,5 +1,5 @@
 -- Document 01, module 3 and 'Replies': the conditions for 7, 8, 9 and 12 by the first section that .., those for 10, 11 and settled by
--- the pass that .., and the premise of demand 3. Readings 21 to 26 of docs/DECISIONS.md. Assumes nothing.
+-- the pass that .., and the premise of demand 3. Readings 22 to 25 of docs/DECISIONS.md. Assumes nothing.
 use Prim.Native.Nat.{ℕ, zero, suc, _+_, _*_, _^_, _≤_, _<_}
 use mathlib.Core.Path.{_≡_}
 use mathlib.Core.Bool.{Bool, true, false, cond, not, _&&_, _||_}

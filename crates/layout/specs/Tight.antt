@@ -1,5 +1,6 @@
--- Beyond document 01: what demand 3 says of the layout holds whatever A and B are, and the bound on the passes that line 11 meets. Said of
--- a list of sections and a reply in the paper's numbers; the proofs are in proofs/Tight. Assumes nothing.
+-- Beyond document 01: a layout that is settled is the least whatever A and B are, up to 1,022 of them it is always decided whether there
+-- is one, and the bound on the passes is the one that line 11 meets. Said of a list of sections and a reply in the paper's numbers; the
+-- proofs are in proofs/Tight. Assumes nothing.
 use Prim.Native.Nat.{ℕ, zero, suc, _+_, _≤_, _<_}
 use mathlib.Core.Path.{_≡_}
 use mathlib.Core.Bool.{true}
@@ -70,5 +71,5 @@ pub record SaysLeast (ss : List Section) (reply : Reply Laid) (l : Layout) : Typ
   pub ifLaid : (laid : Laid) → reply ≡ accepted laid → LeastLayout ss l × (laid .length ≡ inAll l)
   -- 10: no layout gives enough
   pub ifNarrow : (section passes : ℕ) → reply ≡ refused tooNarrow section passes → SomeLayout ss → ⊥
-  -- 11 says nothing of layouts; it needs an A + B of 1,023
+  -- 11 says nothing of layouts; it needs an A + B of at least 1,023
   pub ifUnsettled : (section passes : ℕ) → reply ≡ refused unsettled section passes → mostUnsized < unsizedCount ss

@@ -85,7 +85,7 @@ rust-pushed-zero : emitRef Unsized true 0 ≡ done (0x5f ∷ [])
 unfolding emitRef
 rust-pushed-zero = refl
 
--- ---- a table that grows as the standard vector does: to what is asked for, twice what it had or 4, whichever is most
+-- ---- a table that grows to what is asked for, twice what it had or 4, whichever is most, as the standard library's vector does
 
 abbrev pub doubling : Reserve
 doubling len zero = len

@@ -37,7 +37,8 @@ use Rattle.assembler.proofs.Places.{settled-still}
 use Rattle.settling.specs.Settle.{Settlement, settlement, settling}
 use Rattle.assembler.specs.Assemble.{Outcome, written, assembly}
 use Rattle.settling.proofs.Decoded.{stored-small}
-use Rattle.assembler.proofs.Laid.{sound-settles, laid}
+use Rattle.settling.proofs.SettlingLaw.{sound-settles}
+use Rattle.assembler.proofs.Laid.{laid}
 use Rattle.assembler.proofs.Outcomes.{LaidBy, outcome-refused, outcome-written, fits-law}
 use Rattle.rust_model.specs.Run.{Run, done, panic, andThen, Build}
 use Rattle.rust_model.specs.Building.{Assembler}

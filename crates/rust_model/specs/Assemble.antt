@@ -1,6 +1,7 @@
--- The Rust's `converge_mark_offsets` and `assemble`, written from lib.rs. Its offset table has as many zeros as the hint says, or 128, and
--- grows by zeros at each mark that it lacks, to a capacity that the vector and its allocator choose: that choice is a parameter. They
--- always find the memory here. Assumes nothing else.
+-- The Rust's `converge_mark_offsets` and `assemble`, written from lib.rs. Its offset table has as many zeros as the hint says, or 128. At
+-- each mark it gets room for it and is made as long as its capacity, which the vector and its allocator choose: that choice is a
+-- parameter. They always find the memory here, and a vector may have any length: the real one panics at a hint whose table passes half
+-- the address space. Assumes nothing else.
 use Prim.Native.Nat.{ℕ, zero, suc, _+_, _-_, _≤_}
 use mathlib.Core.Bool.{Bool, true, false, cond, _&&_}
 use mathlib.Core.List.{List, [], _∷_, _++_, reverse}
@@ -20,7 +21,8 @@ use Rattle.rust_model.specs.Sections.{asU32, bytesToHold, minCompiledSiz
 -- ---- the table's growth
 
 -- `capacity()` after `reserve(additional)`, from the table's length and the additional entries. The length is then made the capacity, so
--- the same two numbers come again only where the answer was that length: in one run a vector's answers are always such a function.
+-- the same two numbers come again only where nothing more was asked for, and `reserve` then 'does nothing if capacity is already
+-- sufficient': in one run a vector's answers are always such a function.
 abbrev pub Reserve : Type 0
 Reserve = ℕ → ℕ → ℕ
 

@@ -1,5 +1,5 @@
 -- The Rust's `Assembler` and what each building call does to its bytes and its list of stored sections, written from lib.rs.
--- Only the datatype of calls, and what number a word's bytes are, are our contracts' own. Assumes nothing.
+-- Only the datatypes of calls and of references, and what number a word's bytes are, are our contracts' own. Assumes nothing.
 use Prim.Native.Nat.{ℕ, zero, suc, _+_, _-_, _/_, _%_}
 use mathlib.Core.Bool.{Bool, true, false, cond, _&&_}
 use mathlib.Core.List.{List, [], _∷_, _++_, reverse}

@@ -1,7 +1,7 @@
 -- Demand 2: 'On every list of building calls from an empty store where the Rust doesn't panic, every named mark is placed, none has bytes
 -- between its placings, 01's limits hold and no lent slice is too short, the code, placed marks' offsets, section of a too-small set size
 -- and listing equal the Rust's.' The Rust is the definitions beside this one; ours are those that the contracts of the building calls,
--- `assemble` and `write_asm` cite. Its proof is in proofs/Demand2. Assumes nothing.
+-- `assemble` and `write_asm` cite, and lists of calls (`runReplies`, `runAfter`). Its proof is in proofs/Demand2. Assumes nothing.
 use Prim.Native.Nat.{ℕ, _+_, _*_, _≤_}
 use mathlib.Core.Path.{_≡_}
 use mathlib.Core.Bool.{true, false}
@@ -138,14 +138,15 @@ pub record Demand2 (build : Build) (bs words : List ℕ) (cs : List Call) (a : A
 
 -- ---- beside the demand
 
--- our calls are all accepted exactly where the Rust's don't panic, limits hold and the two slices are long enough. So no building call of
--- the Rust, as it is defined here, panics where ours is accepted, and `Demand2` holds of every list that ours accepts.
+-- our calls are all accepted exactly where the Rust's don't panic, limits hold and the two slices are long enough. So on a list that ours
+-- accepts whole no building call of the Rust, as it is defined here, panics, and `Demand2` holds of every such list.
 abbrev pub SameAcceptance : Build → List ℕ → List ℕ → List Call → Type 0
 SameAcceptance build bs words cs =
     ((a : Assembler) × Builds build bs words cs a) ↔ EveryStored (runReplies wordsPerSection cs (opened bs words))
 
--- where the Rust answers code, no mark, named or not, has bytes between its placings. So the premise `together` of `Assembles` leaves out
--- no code: only lists on which the Rust panics, since it never settles, or reports a too small set size.
+-- where the Rust answers code, no mark, named or not, has bytes between its placings. It holds of what `Builds` (without limits a sum of
+-- sizes could wrap round to where it was). So the premise `together` of `Assembles` leaves out no code: only lists on which the Rust
+-- panics (it never settles, or reads past its table) or reports a too small set size.
 abbrev pub CodeTogether : Build → Assembler → Type 0
 CodeTogether build a =
     (reserve : Reserve) (hint : Option ℕ) (before table result : List ℕ)

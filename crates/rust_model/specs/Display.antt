@@ -1,5 +1,5 @@
--- The Rust's `write_asm`, written from display.rs and from `op::push_size` of op.rs. Only the 256 names, and what bytes a text is, are our
--- contracts' own. Writing to a `String` doesn't fail. Assumes nothing.
+-- The Rust's `write_asm`, written from display.rs and from `op::push_size` of op.rs. Only the 256 names, what bytes a text is, and
+-- the datatype of references are our contracts' own. Writing to a `String` doesn't fail. Assumes nothing.
 use Prim.Native.Nat.{ℕ, zero, suc, _+_, _-_, _/_, _%_, min}
 use mathlib.Core.Bool.{Bool, true, false, cond, _&&_}
 use mathlib.Core.List.{List, [], _∷_, _++_}

@@ -19,7 +19,7 @@ andThen (done x) next = next x
 andThen panic next = panic
 
 -- how the Rust is built: rustc's switches `-C overflow-checks` and `-C debug-assertions`. A build profile sets each by itself: `dev` has
--- both on, `release` both off.
+-- both on, `release` both off. They are set for each crate; those of `assembler` count, where every step that they govern is compiled.
 pub record Build : Type 0 where
   pub overflowChecks : Bool
   pub debugAssertions : Bool

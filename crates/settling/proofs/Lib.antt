@@ -6,3 +6,4 @@ pub mod StartTable
 pub mod SettleAnswers
 pub mod Decoded
 pub mod TightSettling
+pub mod SettlingLaw

@@ -1,3 +1,4 @@
 pub mod Settle
+pub mod SettlingAnswers
 pub mod SectionWalk
 pub mod TightSettling

@@ -14,7 +14,7 @@ use Rattle.layout.specs.Shortest.{settledLayout}
 use Rattle.layout.specs.Answer.{Laid}
 use Rattle.layout.specs.Tight.{unsizedCount, mostUnsized, PlainSections, Decides, SaysLeast}
 
--- demand 3's premises on the store, with 'A + B be at most 1,022' for its bound on the counts
+-- demand 3's premises on the store, with A + B at most 1,022 for its bound on the counts
 pub record FewUnsized (w : ℕ) (st : Store) (n : ℕ) : Type 0 where
   pub undamaged : wholeSoundness w st ≡ Sound
   pub plain : PlainSections n (decode w st)

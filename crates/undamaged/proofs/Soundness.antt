@@ -15,7 +15,7 @@ use Rattle.records.specs.Store.{Store, maxBytes, maxSections, sectionWords, bad
 use Rattle.records.specs.Damage.{unreadable, isSpan, endBefore, spansEnd, breaksRule, firstBroken, badCount, brokenReply, wholeSoundness, lastBroken, badCountBuilding, lastSoundness}
 use Rattle.records.specs.declared.damage.Soundness.{Soundness}
 use Rattle.records.specs.declared.damage.Soundness.the-variants.{Sound, Damaged}
-use Rattle.undamaged.specs.View.{Undamaged, Facts, FirstBreak, LastBreak}
+use Rattle.undamaged.specs.View.{Undamaged, Facts, Within, Keeps, FirstBreak, LastBreak}
 use Rattle.slices.specs.First.{IsLeast}
 use Rattle.undamaged.specs.View.{unsound}
 use Rattle.slices.proofs.Tests.{and-false, false-and, cond-true, cond-false, and-false-left, or-iff}
@@ -50,11 +50,6 @@ last-span w st (suc n) = go (dichotomy (isSpan (sectionWords w st n .kind))) (la
 unequal-iff : (a b : ℕ) → (not (eqb a b) ≡ false) ↔ (a ≡ b)
 unequal-iff a b = (λ e. eqb-true a b (not-false (eqb a b) e), λ e. rw (eq-eqb a b e))
 
--- counts within slices and limits
-abbrev Within : ℕ → Store → Type 0
-Within w st =
-    (st .storedBytes ≤ length (st .bytes)) × (st .storedBytes ≤ maxBytes) × (st .sections ≤ maxSections) × (w * st .sections ≤ length (st .words))
-
 -- the test of the counts
 counts-iff : (w : ℕ) (st : Store) → (badCounts w st ≡ false) ↔ Within w st
 unfolding badCounts
@@ -66,13 +61,6 @@ counts-iff w st = (
       (leb-true _ _ (ab .0), leb-true _ _ (ab .1), leb-true _ _ (abc .1), leb-true _ _ (abcd .1)),
   λ h. rw (le-leb _ _ (h .0), le-leb _ _ (h .1), le-leb _ _ (h .2), le-leb _ _ (h .3)),
 )
-
--- section i keeps the rules
-abbrev Keeps : ℕ → Store → ℕ → Type 0
-Keeps w st i =
-    (unreadable (readSection (sectionWords w st i)) ≡ false)
-    × (isSpan (sectionWords w st i .kind) ≡ true → sectionWords w st i .first ≡ endBefore w st i)
-    × (isSpan (sectionWords w st i .kind) ≡ true → suc i ≡ spansEnd w st (st .sections) → sectionWords w st i .second ≡ st .storedBytes)
 
 -- the shape of a rule: u, or s with a, or s with both c and d
 rule-iff : (u s a c d : Bool) → ((u || s && (a || c && d)) ≡ false) ↔ ((u ≡ false) × (s ≡ true → a ≡ false) × (s ≡ true → c ≡ true → d ≡ false))
@@ -87,7 +75,7 @@ rule-iff u s a c d = (
 )
 
 -- the test of a section
-keeps-iff : (w : ℕ) (st : Store) (i : ℕ) → (breaksRule w st i ≡ false) ↔ Keeps w st i
+pub keeps-iff : (w : ℕ) (st : Store) (i : ℕ) → (breaksRule w st i ≡ false) ↔ Keeps w st i
 unfolding breaksRule
 keeps-iff w st i = (
   λ e.
@@ -97,7 +85,7 @@ keeps-iff w st i = (
 )
 
 -- the whole test of the counts
-bad-count-iff : (w : ℕ) (st : Store) → (badCount w st ≡ false) ↔ (Within w st × (spansEnd w st (st .sections) ≡ 0 → st .storedBytes ≡ 0))
+pub bad-count-iff : (w : ℕ) (st : Store) → (badCount w st ≡ false) ↔ (Within w st × (spansEnd w st (st .sections) ≡ 0 → st .storedBytes ≡ 0))
 unfolding badCount
 bad-count-iff w st = (
   λ e.

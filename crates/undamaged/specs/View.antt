@@ -1,12 +1,12 @@
 -- An undamaged store, and the same as plain facts; section i as the first that breaks a rule.
 -- Assumes nothing.
 use mathlib.Core.Path.{_≡_}
-use Prim.Native.Nat.{ℕ, _*_, _≤_, _<_, _-_}
+use Prim.Native.Nat.{ℕ, suc, _*_, _≤_, _<_, _-_}
 use mathlib.Core.Bool.{Bool, true, false}
 use lib.ListN.{length}
 use Rattle.records.specs.Record.{readSection}
 use Rattle.records.specs.Store.{Store, maxBytes, maxSections, sectionWords}
-use Rattle.records.specs.Damage.{unreadable, isSpan, endBefore, breaksRule, wholeSoundness, lastBroken}
+use Rattle.records.specs.Damage.{unreadable, isSpan, endBefore, spansEnd, breaksRule, wholeSoundness, lastBroken}
 use Rattle.records.specs.declared.damage.Soundness.{Soundness}
 use Rattle.records.specs.declared.damage.Soundness.the-variants.{Sound, Damaged}
 
@@ -24,6 +24,20 @@ pub record Facts (w : ℕ) (st : Store) : Type 0 where
   pub readable : (i : ℕ) → i < st .sections → unreadable (readSection (sectionWords w st i)) ≡ false
   pub starts : (i : ℕ) → i < st .sections → isSpan (sectionWords w st i .kind) ≡ true → sectionWords w st i .first ≡ endBefore w st i
   pub ends : endBefore w st (st .sections) ≡ st .storedBytes
+
+-- a good count, but for bytes that no section holds: neither 'beyond slices or limits' (`bad-count-iff`, proofs/Soundness)
+abbrev pub Within : ℕ → Store → Type 0
+Within w st =
+    (st .storedBytes ≤ length (st .bytes)) × (st .storedBytes ≤ maxBytes) × (st .sections ≤ maxSections)
+    × (w * st .sections ≤ length (st .words))
+
+-- section i breaks no rule: it can be read; an Ops or Data section starts at the end of the one before it, and the last such ends at the
+-- stored count (`keeps-iff`, proofs/Soundness)
+abbrev pub Keeps : ℕ → Store → ℕ → Type 0
+Keeps w st i =
+    (unreadable (readSection (sectionWords w st i)) ≡ false)
+    × (isSpan (sectionWords w st i .kind) ≡ true → sectionWords w st i .first ≡ endBefore w st i)
+    × (isSpan (sectionWords w st i .kind) ≡ true → suc i ≡ spansEnd w st (st .sections) → sectionWords w st i .second ≡ st .storedBytes)
 
 -- section i is the first that breaks a rule of the whole test
 abbrev pub FirstBreak : ℕ → Store → ℕ → Type 0
