@@ -15,7 +15,7 @@ use Rattle.layout.specs.Passes.{entry}
 use Rattle.layout.specs.Answer as layout
 use Rattle.settling.specs.SettlingAnswers as settling
 use Rattle.settling.specs.SettlingAnswers.{SettlingSays}
-use Rattle.settling.proofs.SettlingLaw.{refusalAt, sound-answered, settling-said, settling-law}
+use Rattle.settling.proofs.SettlingLaw.{refusalAt, refusal-back, sound-answered, settling-said, settling-law}
 use Rattle.assembler.specs.Assemble.{Outcome, isFull, assembly}
 use Rattle.assembler.specs.AssemblyAnswers.{AssemblyAnswer, written, damaged, noLayout, resultFull, assemblyReply, AnswerSays, CodePasses}
 use Rattle.assembler.specs.Emission.{codeOf}
@@ -40,12 +40,7 @@ answer-back : (a : AssemblyAnswer) → answerOf (assemblyReply a) ≡ a
 unfolding answerOf
 answer-back (written size k) = refl
 answer-back (damaged i) = refl
-answer-back (noLayout (layout.shortTable i)) = refl
-answer-back (noLayout (layout.unplaced i)) = refl
-answer-back (noLayout (layout.placedApart i)) = refl
-answer-back (noLayout (layout.tooNarrow i k)) = refl
-answer-back (noLayout layout.unsettled) = refl
-answer-back (noLayout (layout.backward i k)) = refl
+answer-back (noLayout r) = rw (refusal-back r .0) (ap ofSettling (refusal-back r .1))
 answer-back (resultFull k) = refl
 
 module _ (w : ℕ) (st : Store) (n : ℕ) (result : List ℕ) (position : ℕ) where

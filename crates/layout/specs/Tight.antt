@@ -1,6 +1,6 @@
--- Beyond document 01: a layout that is settled is the least whatever A and B are, up to 1,022 of them it is always decided whether there
--- is one, and the bound on the passes is the one that line 11 meets. Said of a list of sections and a reply in the paper's numbers; the
--- proofs are in proofs/Tight. Assumes nothing.
+-- Beyond document 01: where every reference is direct, a layout that is settled is the least, whatever A and B are; under demand 3's
+-- premises on marks and references an A + B of up to 1,022 is enough to decide whether there is one; and the bound on the passes is the
+-- one that line 11 meets. Said of a list of sections and a reply in the paper's numbers; the proofs are in proofs/Tight. Assumes nothing.
 use Prim.Native.Nat.{ℕ, zero, suc, _+_, _≤_, _<_}
 use mathlib.Core.Path.{_≡_}
 use mathlib.Core.Bool.{true}

@@ -1,7 +1,7 @@
 -- The law of each answer of settling: 6 to 12 and laid out, each exactly in its stated condition. Assumes nothing.
 use Prim.Native.Nat.{ℕ}
 use mathlib.Core.Path.{_≡_, refl, sym, ap, _∙_, subst}
-use mathlib.Core.Bool.{cond}
+use mathlib.Core.Bool.{false, cond}
 use mathlib.Core.Logic.{_↔_}
 use lib.Dec.{eqb}
 use Rattle.units.specs.Reply.{Reply, accepted, refused}
@@ -30,6 +30,17 @@ refusalAt number i k =
     (cond (eqb number 11) (noLayout layout.unsettled)
     (noLayout (layout.backward i k)))))))
 
+-- one of 7 to 12 comes back from its number, section and passes; it isn't 13
+pub refusal-back : (r : layout.LayoutRefusal)
+    → (eqb (layout.layoutNumbers r .number) 13 ≡ false)
+    × (refusalAt (layout.layoutNumbers r .number) (layout.layoutNumbers r .section) (layout.layoutNumbers r .passes) ≡ noLayout r)
+refusal-back (layout.shortTable i) = (refl, refl)
+refusal-back (layout.unplaced i) = (refl, refl)
+refusal-back (layout.placedApart i) = (refl, refl)
+refusal-back (layout.tooNarrow i k) = (refl, refl)
+refusal-back layout.unsettled = (refl, refl)
+refusal-back (layout.backward i k) = (refl, refl)
+
 -- the answer that a reply stands for
 answerOf : Reply layout.Laid → SettlingAnswer
 answerOf (accepted l) = laidOut (l .length) (l .passes)
@@ -40,12 +51,7 @@ answer-back : (a : SettlingAnswer) → answerOf (settlingReply a) ≡ a
 unfolding answerOf
 answer-back (laidOut size k) = refl
 answer-back (damaged i) = refl
-answer-back (noLayout (layout.shortTable i)) = refl
-answer-back (noLayout (layout.unplaced i)) = refl
-answer-back (noLayout (layout.placedApart i)) = refl
-answer-back (noLayout (layout.tooNarrow i k)) = refl
-answer-back (noLayout layout.unsettled) = refl
-answer-back (noLayout (layout.backward i k)) = refl
+answer-back (noLayout r) = refusal-back r .1
 
 -- an undamaged store is answered by its sections
 pub sound-settles : (w n : ℕ) (st : Store) → Undamaged w st → settling w n st ≡ settlement n soundness.Sound (layout.answer n (decode w st))

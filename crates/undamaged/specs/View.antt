@@ -25,7 +25,8 @@ pub record Facts (w : ℕ) (st : Store) : Type 0 where
   pub starts : (i : ℕ) → i < st .sections → isSpan (sectionWords w st i .kind) ≡ true → sectionWords w st i .first ≡ endBefore w st i
   pub ends : endBefore w st (st .sections) ≡ st .storedBytes
 
--- a good count, but for bytes that no section holds: neither 'beyond slices or limits' (`bad-count-iff`, proofs/Soundness)
+-- counts that aren't 'beyond slices or limits'. A good count is this, and no byte stored where no section is Ops or Data (`bad-count-iff`,
+-- proofs/Soundness).
 abbrev pub Within : ℕ → Store → Type 0
 Within w st =
     (st .storedBytes ≤ length (st .bytes)) × (st .storedBytes ≤ maxBytes) × (st .sections ≤ maxSections)

@@ -23,7 +23,7 @@ assembled-number-requires : tie.Need-assembled-number-requires
 assembled-number-requires c κs =
     let called = c .before .before .before .before in
     let a = entry called .args in
-    assembled-packs (now (a .bytes)) (now (a .words)) (now (a .table)) (now (a .result)) (a .position) _ _ (called .assemble .ensures .0)
+    assembled-packs (now (a .bytes)) (now (a .words)) (now (a .table)) (now (a .result)) _ _ _ (called .assemble .ensures .0)
 
 same-length : tie.Need-same-length
 same-length c = search needs
