@@ -7,3 +7,4 @@ pub mod Refusals
 pub mod Calls
 pub mod Runs
 pub mod Instructions
+pub mod OpBytes

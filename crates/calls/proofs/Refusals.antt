@@ -15,7 +15,7 @@ use Rattle.records.specs.declared.damage.Soundness.{Soundness}
 use Rattle.records.specs.declared.damage.Soundness.the-variants.{Sound, Damaged}
 use Rattle.records.specs.Store.{Store, countsOf}
 use Rattle.records.specs.Damage.{lastSoundness}
-use Rattle.calls.specs.Calls.{BuiltReply, Push, hasBadDepth, hasBadWord, hasLargeMark, added, withSection, bytesPass, sectionPasses, roomReply, soundReply, addReply, pushReply, ifStored, pushAfter}
+use Rattle.calls.specs.Calls.{BuiltReply, Push, hasBadDepth, hasBadWord, hasLargeMark, added, withSection, bytesPass, sectionPasses, roomReply, soundReply, addReply, pushReply, ifStored, pushAfter, allReply, eachAfter, allAfter}
 use Rattle.calls.specs.Answers.{NoneOf, PushAnswers}
 use Rattle.undamaged.specs.View.{unsound}
 use Rattle.undamaged.proofs.Soundness.{sectionFound}
@@ -61,20 +61,24 @@ abbrev isRefused : BuiltReply → Bool
 isRefused (accepted a) = false
 isRefused (refused n i k) = true
 
+-- no answer is both
+pub accepted-refused : {a : Assembler} {n i k : ℕ} → _≡_ {A = BuiltReply} (accepted a) (refused n i k) → ⊥
+accepted-refused e = false≢true (ap isRefused e)
+
 -- refusals of different numbers differ
 other-refusal : (m s n i k : ℕ) → eqb m n ≡ false → _≡_ {A = BuiltReply} (refused m s 0) (refused n i k) → ⊥
 other-refusal m s n i k e q = true≢false (sym (eq-eqb m n (ap numberOf q)) ∙ e)
 
 -- a number that no test has is not given
 never : (ts : List Test) (a : Assembler) (n i k : ℕ) → among n ts ≡ false → firstOf ts (accepted a) ≡ refused n i k → ⊥
-never [] a n i k u e = false≢true (ap isRefused e)
+never [] a n i k u e = accepted-refused e
 never (test m j true ∷ ts) a n i k u e = other-refusal m j n i k (or-false (eqb m n) (among n ts) .0 u .0) e
 never (test m j false ∷ ts) a n i k u e = never ts a n i k (or-false (eqb m n) (among n ts) .0 u .1) e
 
 -- a number that is given is from 1 to most if those of the tests are
 given-number : (most : ℕ) (ts : List Test) (a : Assembler) (n i k : ℕ) → upTo most ts ≡ true → firstOf ts (accepted a) ≡ refused n i k
     → (1 ≤ n) × (n ≤ most)
-given-number most [] a n i k u e = absurd (false≢true (ap isRefused e))
+given-number most [] a n i k u e = absurd (accepted-refused e)
 given-number most (test m j true ∷ ts) a n i k u e =
     let q : m ≡ n = ap numberOf e in
     let r = and-true (leb 1 m) (leb m most) .0 (and-true (leb 1 m && leb m most) (upTo most ts) .0 u .0) in
@@ -173,3 +177,36 @@ module _ (w : ℕ) (p : Push) (st : Store) where
   pub accepted-added : (a : Assembler) → pushReply w p st ≡ accepted a → pushAfter w p st ≡ withSection w (added p) st
   unfolding pushAfter
   accepted-added a e = ap (λ (r : BuiltReply). ifStored r (withSection w (added p) st) st) e
+
+-- ---- calls in turn, all or nothing
+
+module _ (w : ℕ) (p : Push) (ps : List Push) (st : Store) where
+  -- a refusal ends them
+  pub all-refused : (n i k : ℕ) → pushReply w p st ≡ refused n i k → allReply w (p ∷ ps) st ≡ refused n i k
+  unfolding allReply
+  all-refused n i k e = rw e
+
+  -- after an accepted call the others follow
+  pub all-next : (a : Assembler) → pushReply w p st ≡ accepted a → allReply w (p ∷ ps) st ≡ allReply w ps (pushAfter w p st)
+  unfolding allReply
+  all-next a e = rw e
+
+  -- so where all are accepted, the first is, and then the others are
+  pub all-first : (a : Assembler) → allReply w (p ∷ ps) st ≡ accepted a
+      → (b : Assembler) × (pushReply w p st ≡ accepted b) × (allReply w ps (pushAfter w p st) ≡ accepted a)
+  all-first a e = go (pushReply w p st) refl
+    where
+      go : (r : BuiltReply) → pushReply w p st ≡ r → (b : Assembler) × (pushReply w p st ≡ accepted b) × (allReply w ps (pushAfter w p st) ≡ accepted a)
+      go (accepted b) x = (b, x, sym (all-next b x) ∙ e)
+      go (refused n i k) x = absurd (accepted-refused (sym e ∙ all-refused n i k x))
+
+module _ (w : ℕ) (ps : List Push) (st : Store) where
+  -- refused, they leave the store as it was
+  pub all-same : (n i k : ℕ) → allReply w ps st ≡ refused n i k → allAfter w ps st ≡ st
+  unfolding allAfter
+  all-same n i k e = ap (λ (r : BuiltReply). ifStored r (eachAfter w ps st) st) e
+
+  -- accepted, what each in turn leaves
+  pub all-each : (a : Assembler) → allReply w ps st ≡ accepted a → allAfter w ps st ≡ eachAfter w ps st
+  unfolding allAfter
+  all-each a e = ap (λ (r : BuiltReply). ifStored r (eachAfter w ps st) st) e

@@ -1,7 +1,7 @@
 -- Document 01, module 2: the building calls. What each refuses, what it adds, and what an accepted call leaves in counts and slices,
 -- for every store, damaged or not. The words of a section are a parameter, w. Assumes nothing.
 use Prim.Native.Nat.{ℕ, _+_, _*_, min, _-_}
-use mathlib.Core.List.{List, [], _∷_}
+use mathlib.Core.List.{List, [], _∷_, map}
 use mathlib.Core.Bool.{Bool, false, cond, not, _&&_, _||_}
 use lib.ListN.{length, set}
 use lib.Dec.{ltb, eqb}
@@ -35,9 +35,10 @@ pub data Push : Type 0 where
   pushData : List ℕ → Push
   pushReference : AsmReference → Push
 
--- the building calls
+-- the building calls: one of those, a run of op bytes, or `clear`
 pub data Call : Type 0 where
   push : Push → Call
+  pushOpBytes : List ℕ → Call
   clear : Call
 
 -- what a building call answers: the store's counts after it, or a refusal
@@ -224,6 +225,31 @@ addAfter w s st = ifStored (addReply w s st) (withSection w s st) st
 unfoldable pub pushAfter : ℕ → Push → Store → Store
 pushAfter w p st = ifStored (pushReply w p st) (withSection w (added p) st) st
 
+-- ---- all or nothing: calls made in turn, up to the first that is refused
+
+-- a refusal ends it; after an accepted call the next answer counts
+abbrev pub unlessRefused : BuiltReply → BuiltReply → BuiltReply
+unlessRefused (accepted counts) next = next
+unlessRefused (refused n i k) next = refused n i k
+
+-- the answer: 'the first such byte's refusal', else the counts after the last call; of no call, the counts as they are
+unfoldable pub allReply : ℕ → List Push → Store → BuiltReply
+allReply w [] st = accepted (countsOf st)
+allReply w (p ∷ ps) st = unlessRefused (pushReply w p st) (allReply w ps (pushAfter w p st))
+
+-- the store after each of them in turn
+unfoldable pub eachAfter : ℕ → List Push → Store → Store
+eachAfter w [] st = st
+eachAfter w (p ∷ ps) st = eachAfter w ps (pushAfter w p st)
+
+-- 'all or nothing': accepted, what each in turn leaves; 'if some byte would be refused, nothing is stored'
+unfoldable pub allAfter : ℕ → List Push → Store → Store
+allAfter w ps st = ifStored (allReply w ps st) (eachAfter w ps st) st
+
+-- a run of op bytes is 'pushing each byte in turn'
+abbrev pub eachOpByte : List ℕ → List Push
+eachOpByte bs = map pushOpByte bs
+
 -- ---- any building call, and lists of them
 
 -- `clear`: 'counts to 0, any state'; no slice is touched
@@ -233,11 +259,13 @@ emptied st = record { bytes = st .bytes; words = st .words; storedBytes = 0; sec
 -- the answer to a building call; `clear` can't be refused
 abbrev pub callReply : ℕ → Call → Store → BuiltReply
 callReply w (push p) st = pushReply w p st
+callReply w (pushOpBytes bs) st = allReply w (eachOpByte bs) st
 callReply w clear st = accepted emptyCounts
 
 -- the store after a building call
 abbrev pub callAfter : ℕ → Call → Store → Store
 callAfter w (push p) st = pushAfter w p st
+callAfter w (pushOpBytes bs) st = allAfter w (eachOpByte bs) st
 callAfter w clear st = emptied st
 
 -- the answers to a list of calls, made one after another

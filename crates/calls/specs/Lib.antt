@@ -1,4 +1,5 @@
 pub mod Calls
+pub mod AtOnce
 pub mod Alone
 pub mod Lists
 pub mod Answers

@@ -2,7 +2,7 @@
 use mathlib.Core.List.{List, [], _∷_, _++_}
 use Prim.Native.Nat.{ℕ}
 use Rattle.records.specs.Sections.{Section, mark, ops, bytes, reference}
-use Rattle.calls.specs.Calls.{Call, push, clear, added}
+use Rattle.calls.specs.Calls.{Push, Call, push, pushOpBytes, clear, added, eachOpByte}
 
 -- op bytes after an Ops section whose bytes are bs extend it
 abbrev pub afterOps : List ℕ → Section → List Section
@@ -35,9 +35,15 @@ unfoldable pub addedTo : List Section → Section → List Section
 addedTo [] s = s ∷ []
 addedTo (x ∷ xs) s = addedAfter x xs s
 
+-- calls that each add a section, in turn
+unfoldable pub addedEach : List Section → List Push → List Section
+addedEach l [] = l
+addedEach l (p ∷ ps) = addedEach (addedTo l (added p)) ps
+
 -- what a call does to the list of sections
 abbrev pub callList : Call → List Section → List Section
 callList (push p) l = addedTo l (added p)
+callList (pushOpBytes bs) l = addedEach l (eachOpByte bs)
 callList clear l = []
 
 -- what a list of calls does to it

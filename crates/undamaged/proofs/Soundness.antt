@@ -205,16 +205,38 @@ pub last-end : (w : ℕ) (st : Store) (m : ℕ) → Facts w st → suc m ≡ st 
 unfolding endBefore
 last-end w st m f e s = sym (cond-true _ _ (endBefore w st m) s) ∙ ap (endBefore w st) e ∙ f .ends
 
+-- it finds nothing: counts within slices and limits, no bytes without sections, and no broken last section
+pub last-sound-iff : (w : ℕ) (st : Store)
+    → (lastSoundness w st ≡ Sound)
+    ↔ (Within w st × (st .sections ≡ 0 → st .storedBytes ≡ 0) × (0 < st .sections → lastBroken w st (st .sections - 1) ≡ false))
+unfolding lastSoundness badCountBuilding
+last-sound-iff w st = (
+  λ e.
+      let r = sound-iff (badCountBuilding w st) (ltb 0 (st .sections) && lastBroken w st (st .sections - 1)) (st .sections - 1) .0 e in
+      let c = or-false (badCounts w st) (ltb 0 (st .storedBytes) && eqb (st .sections) 0) .0 (r .0) in (
+        counts-iff w st .0 (c .0),
+        λ z. omega (arith, ltb-false 0 (st .storedBytes) (and-false-left _ _ (c .1) (eq-eqb _ _ z))),
+        λ l. and-false _ _ (r .1) (lt-ltb 0 (st .sections) l),
+      ),
+  λ h.
+      let some : ltb 0 (st .storedBytes) ≡ true → eqb (st .sections) 0 ≡ false =
+      λ l. ne-eqb (st .sections) 0 (λ (z : st .sections ≡ 0). absurd (omega (arith, ltb-true 0 (st .storedBytes) l, h .1 z)))
+      in
+      sound-iff _ _ _ .1
+      (or-false _ _ .1 (counts-iff w st .1 (h .0), false-and _ _ some), false-and _ _ (λ (l : ltb 0 (st .sections) ≡ true). h .2 (ltb-true 0 (st .sections) l))),
+)
+
 -- a store of these facts passes it
 facts-last-sound : (w : ℕ) (st : Store) → Facts w st → lastSoundness w st ≡ Sound
-unfolding lastSoundness badCountBuilding lastBroken endBefore
+unfolding lastBroken endBefore
 facts-last-sound w st f =
-    sound-iff _ _ _ .1 (
-      or-false _ _ .1 (counts-iff w st .1 (f .bytesFit, f .bytesLimit, f .sectionsLimit, f .wordsFit), false-and _ _ (λ (l : ltb 0 (st .storedBytes) ≡ true). ne-eqb (st .sections) 0 (λ (z : st .sections ≡ 0). absurd (omega (arith, ltb-true 0 (st .storedBytes) l, sym (f .ends) ∙ ap (endBefore w st) z))))),
-      false-and _ _ (λ (l : ltb 0 (st .sections) ≡ true).
+    last-sound-iff w st .1 (
+      (f .bytesFit, f .bytesLimit, f .sectionsLimit, f .wordsFit),
+      λ z. sym (f .ends) ∙ ap (endBefore w st) z,
+      λ l.
           let m : ℕ = st .sections - 1 in
-          let e : suc m ≡ st .sections = omega (arith, ltb-true 0 (st .sections) l) in
-          or-false _ _ .1 (f .readable m (le-of-eq e), false-and _ _ (λ s. unequal-iff _ _ .1 (last-end w st m f e s)))),
+          let e : suc m ≡ st .sections = omega (arith, l) in
+          or-false _ _ .1 (f .readable m (le-of-eq e), false-and _ _ (λ s. unequal-iff _ _ .1 (last-end w st m f e s))),
     )
 
 -- an undamaged store passes it
