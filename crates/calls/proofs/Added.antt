@@ -72,6 +72,17 @@ record-length w r h = omega (arith, length-replicate {A = ℕ} (w - 3) 0)
 pub record-end : (w n : ℕ) (r : StoredSection) → 3 ≤ w → w * n + length (recordWords w r) ≡ w * (n + 1)
 record-end w n r h = ap (λ (k : ℕ). w * n + k) (record-length w r h) ∙ sym (ap (λ (k : ℕ). w * k) (add-one n) ∙ mul-suc w n)
 
+-- a record written at the count is the words of the section there
+pub row-read : (w : ℕ) (s : Section) (st : Store) → w * st .sections ≤ length (st .words)
+    → sectionWords w (appended w s st) (st .sections) ≡ wordsOf (st .storedBytes) s
+row-read w s st fits =
+    let row : StoredSection = wordsOf (st .storedBytes) s in
+    let at : (j : ℕ) → j < length (recordWords w row) → getD (appended w s st .words) (w * st .sections + j) 0 ≡ getD (recordWords w row) j 0 =
+    λ j b. getD-over (st .words) (w * st .sections) (recordWords w row) fits j 0 b
+    in
+    let kind : getD (appended w s st .words) (w * st .sections) 0 ≡ row .kind = rw add-zero at (at 0 (omega arith)) in
+    λ p. record { kind = kind p; first = at 1 (omega arith) p; second = at 2 (omega arith) p }
+
 module _ (w : ℕ) (s : Section) (st : Store) (h : 3 ≤ w) (f : Facts w st) (small : large s ≡ false) (room : BytesRoom s st) where
   -- the words that are appended
   abbrev row : StoredSection
@@ -99,15 +110,6 @@ module _ (w : ℕ) (s : Section) (st : Store) (h : 3 ≤ w) (f : Facts w st) (sm
 
   -- ---- appended
 
-  -- a record written at the count is the words of the section there
-  row-read : sectionWords w (appended w s st) (st .sections) ≡ row
-  row-read =
-      let at : (j : ℕ) → j < length (recordWords w row) → getD (appended w s st .words) (w * st .sections + j) 0 ≡ getD (recordWords w row) j 0 =
-      λ j b. getD-over (st .words) (w * st .sections) (recordWords w row) (f .wordsFit) j 0 b
-      in
-      let kind : getD (appended w s st .words) (w * st .sections) 0 ≡ row .kind = rw add-zero at (at 0 (omega arith)) in
-      λ p. record { kind = kind p; first = at 1 (omega arith) p; second = at 2 (omega arith) p }
-
   -- the appended record is one more section
   appended-grown : RowRoom w st → Grown w st (appended w s st) (st .sections) row
   appended-grown new =
@@ -121,7 +123,7 @@ module _ (w : ℕ) (s : Section) (st : Store) (h : 3 ≤ w) (f : Facts w st) (sm
         kept = le-refl (st .sections);
         sameWords = take-over (st .words) (w * st .sections) (recordWords w row) (f .wordsFit);
         sameBytes = old-bytes (st .sections) (le-refl (st .sections));
-        last = row-read;
+        last = row-read w s st (f .wordsFit);
         readable = read-back end s (appended w s st .bytes) small new-bytes .0;
         starts = λ t. words-start end s t ∙ sym (f .ends);
         ends = ap (λ (x : ℕ). cond (isSpan (row .kind)) (row .second) x) (f .ends) ∙ words-end end s;

@@ -37,7 +37,7 @@ unfolding bytesPass
 bytes-room s st e = let l = ltb-false _ (st .storedBytes + length (bytesOf s)) e in record { fits = omega arith; limit = omega arith }
 
 -- room for its section, if it needs one
-row-room : (w : ℕ) (s : Section) (st : Store) → sectionPasses w s st ≡ false → joins w s st ≡ false → RowRoom w st
+pub row-room : (w : ℕ) (s : Section) (st : Store) → sectionPasses w s st ≡ false → joins w s st ≡ false → RowRoom w st
 unfolding sectionPasses noSectionLeft
 row-room w s st e n =
     let r = or-false (ltb maxSections (st .sections + 1)) (ltb (length (st .words)) (w * (st .sections + 1))) .0 (and-false (not (joins w s st)) _ e (rw n)) in

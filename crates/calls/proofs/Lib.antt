@@ -8,3 +8,4 @@ pub mod Calls
 pub mod Runs
 pub mod Instructions
 pub mod OpBytes
+pub mod OpBytesAnswers

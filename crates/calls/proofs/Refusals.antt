@@ -23,26 +23,26 @@ use Rattle.undamaged.proofs.Soundness.{sectionFound}
 -- ---- a chain of tests
 
 -- a refusal's number and section, and whether its condition holds
-data Test : Type 0 where
+pub data Test : Type 0 where
   test : ℕ → ℕ → Bool → Test
 
-abbrev holds : Test → Bool
+abbrev pub holds : Test → Bool
 holds (test n s b) = b
 
 -- the first refusal whose condition holds, or the answer r
-abbrev firstOf : List Test → BuiltReply → BuiltReply
+abbrev pub firstOf : List Test → BuiltReply → BuiltReply
 firstOf [] r = r
 firstOf (test n s b ∷ ts) r = cond b (refused n s 0) (firstOf ts r)
 
 -- some test of a list has the number n
-abbrev among : ℕ → List Test → Bool
+abbrev pub among : ℕ → List Test → Bool
 among n [] = false
 among n (test m s b ∷ ts) = eqb m n || among n ts
 
--- every test of a list has a number from 1 to most
-abbrev upTo : ℕ → List Test → Bool
-upTo most [] = true
-upTo most (test m s b ∷ ts) = leb 1 m && leb m most && upTo most ts
+-- every test of a list has a number from least to most
+abbrev pub between : ℕ → ℕ → List Test → Bool
+between least most [] = true
+between least most (test m s b ∷ ts) = leb least m && leb m most && between least most ts
 
 -- what a refusal holds
 abbrev numberOf : BuiltReply → ℕ
@@ -75,18 +75,19 @@ never [] a n i k u e = accepted-refused e
 never (test m j true ∷ ts) a n i k u e = other-refusal m j n i k (or-false (eqb m n) (among n ts) .0 u .0) e
 never (test m j false ∷ ts) a n i k u e = never ts a n i k (or-false (eqb m n) (among n ts) .0 u .1) e
 
--- a number that is given is from 1 to most if those of the tests are
-given-number : (most : ℕ) (ts : List Test) (a : Assembler) (n i k : ℕ) → upTo most ts ≡ true → firstOf ts (accepted a) ≡ refused n i k
-    → (1 ≤ n) × (n ≤ most)
-given-number most [] a n i k u e = absurd (accepted-refused e)
-given-number most (test m j true ∷ ts) a n i k u e =
+-- a number that is given is from least to most if those of the tests are
+pub given-number : (least most : ℕ) (ts : List Test) (a : Assembler) (n i k : ℕ) → between least most ts ≡ true → firstOf ts (accepted a) ≡ refused n i k
+    → (least ≤ n) × (n ≤ most)
+given-number least most [] a n i k u e = absurd (accepted-refused e)
+given-number least most (test m j true ∷ ts) a n i k u e =
     let q : m ≡ n = ap numberOf e in
-    let r = and-true (leb 1 m) (leb m most) .0 (and-true (leb 1 m && leb m most) (upTo most ts) .0 u .0) in
-    subst (λ (x : ℕ). (1 ≤ x) × (x ≤ most)) q (leb-true 1 m (r .0), leb-true m most (r .1))
-given-number most (test m j false ∷ ts) a n i k u e = given-number most ts a n i k (and-true (leb 1 m && leb m most) (upTo most ts) .0 u .1) e
+    let r = and-true (leb least m) (leb m most) .0 (and-true (leb least m && leb m most) (between least most ts) .0 u .0) in
+    subst (λ (x : ℕ). (least ≤ x) × (x ≤ most)) q (leb-true least m (r .0), leb-true m most (r .1))
+given-number least most (test m j false ∷ ts) a n i k u e =
+    given-number least most ts a n i k (and-true (leb least m && leb m most) (between least most ts) .0 u .1) e
 
 -- a number that one test has is given if that test's condition holds, and none before it
-refused-iff : (before : List Test) (n j : ℕ) (c : Bool) (after : List Test) (a : Assembler) (i k : ℕ)
+pub refused-iff : (before : List Test) (n j : ℕ) (c : Bool) (after : List Test) (a : Assembler) (i k : ℕ)
     → among n before ≡ false → among n after ≡ false
     → (firstOf (before ++ (test n j c ∷ after)) (accepted a) ≡ refused n i k) ↔ (NoneOf (map holds before) × (c ≡ true) × (i ≡ j) × (k ≡ 0))
 refused-iff [] n j true after a i k x y = (λ e. (tt, refl, sym (ap sectionOf e), sym (ap passesOf e)), λ h. cc)
@@ -98,7 +99,7 @@ refused-iff (test m l false ∷ ts) n j c after a i k x y =
     (λ e. let q = r .0 e in ((refl, q .0), q .1, q .2, q .3), λ h. r .1 (h .0 .1, h .1, h .2, h .3))
 
 -- the call is accepted if no condition holds
-none-iff : (ts : List Test) (a x : Assembler) → (firstOf ts (accepted a) ≡ accepted x) ↔ (NoneOf (map holds ts) × (x ≡ a))
+pub none-iff : (ts : List Test) (a x : Assembler) → (firstOf ts (accepted a) ≡ accepted x) ↔ (NoneOf (map holds ts) × (x ≡ a))
 none-iff [] a x = (λ e. (tt, cc), λ h. cc)
 none-iff (test m l true ∷ ts) a x = (λ e. absurd (true≢false (ap isRefused e)), λ h. absurd (true≢false (h .0 .0)))
 none-iff (test m l false ∷ ts) a x =
@@ -108,12 +109,12 @@ none-iff (test m l false ∷ ts) a x =
 -- ---- the test of the store
 
 -- as a test of the chain
-sound-chain : (s : Soundness) (r : BuiltReply) → soundReply s r ≡ cond (unsound s) (refused damaged (sectionFound s) 0) r
+pub sound-chain : (s : Soundness) (r : BuiltReply) → soundReply s r ≡ cond (unsound s) (refused damaged (sectionFound s) 0) r
 sound-chain Sound r = refl
 sound-chain (Damaged i) r = refl
 
 -- what it found
-found-iff : (s : Soundness) (i : ℕ) → ((unsound s ≡ true) × (i ≡ sectionFound s)) ↔ (s ≡ Damaged i)
+pub found-iff : (s : Soundness) (i : ℕ) → ((unsound s ≡ true) × (i ≡ sectionFound s)) ↔ (s ≡ Damaged i)
 found-iff Sound i = (λ h. absurd (false≢true (h .0)), λ e. absurd (false≢true (ap unsound e)))
 found-iff (Damaged j) i = (λ h. ap Damaged (sym (h .1)), λ e. (refl, sym (ap sectionFound e)))
 
@@ -165,7 +166,7 @@ module _ (w : ℕ) (p : Push) (st : Store) where
         bytesFull-iff = λ i k. rw push-chain (refused-iff (t₁ ∷ t₂ ∷ t₃ ∷ t₆ ∷ []) bytesFull 0 _ (t₅ ∷ []) _ i k refl refl);
         sectionsFull-iff = λ i k. rw push-chain (refused-iff (t₁ ∷ t₂ ∷ t₃ ∷ t₆ ∷ t₄ ∷ []) sectionsFull 0 _ [] _ i k refl refl);
         accepted-iff = λ x. rw push-chain (none-iff (t₁ ∷ t₂ ∷ t₃ ∷ t₆ ∷ t₄ ∷ t₅ ∷ []) _ x);
-        numbers = λ n i k e. given-number 6 (t₁ ∷ t₂ ∷ t₃ ∷ t₆ ∷ t₄ ∷ t₅ ∷ []) _ n i k refl (sym push-chain ∙ e);
+        numbers = λ n i k e. given-number 1 6 (t₁ ∷ t₂ ∷ t₃ ∷ t₆ ∷ t₄ ∷ t₅ ∷ []) _ n i k refl (sym push-chain ∙ e);
       }
 
   -- a refused call leaves the store as it was

@@ -3,7 +3,7 @@
 use mathlib.Core.Path.{_≡_}
 use Prim.Native.Nat.{ℕ, _*_, _≤_}
 use mathlib.Core.Logic.{_↔_}
-use mathlib.Core.Bool.{Bool, true, false}
+use mathlib.Core.Bool.{Bool, true, false, not, _&&_, _||_}
 use mathlib.Core.List.{List, [], _∷_, _++_}
 use lib.ListN.{length, drop}
 use Rattle.units.specs.Replies.{badDepth, badWord, largeMark, bytesFull, sectionsFull, damaged}
@@ -12,9 +12,10 @@ use Rattle.records.specs.declared.damage.Soundness.the-variants.{Damaged}
 use Rattle.records.specs.Store.{Store, countsOf}
 use Rattle.records.specs.declared.Assembler.{Assembler}
 use Rattle.records.specs.Damage.{lastSoundness}
-use Rattle.records.specs.Sections.{decode}
+use Rattle.records.specs.Sections.{ops, decode}
 use Rattle.calls.specs.Calls.{BuiltReply, Push, Call, hasBadDepth, hasBadWord, hasLargeMark, added, withSection}
-use Rattle.calls.specs.Calls.{bytesPass, sectionPasses, pushReply, callAfter}
+use Rattle.calls.specs.Calls.{bytesPass, sectionPasses, pushReply, allReply, eachAfter, pushOpBytes, callReply, callAfter}
+use Rattle.calls.specs.AtOnce.{noByteLeft}
 use Rattle.calls.specs.Lists.{callList}
 use Rattle.undamaged.specs.View.{Undamaged, unsound}
 
@@ -51,6 +52,33 @@ pub record PushAnswers (w : ℕ) (p : Push) (st : Store) : Type 0 where
       ↔ (NoneOf (ownTests p ++ (unsound (lastSoundness w st) ∷ bytesPass (added p) st ∷ sectionPasses w (added p) st ∷ []))
       × (counts ≡ countsOf (withSection w (added p) st)))
   pub numbers : (n i k : ℕ) → pushReply w p st ≡ refused n i k → (1 ≤ n) × (n ≤ 6)
+
+-- when a run of op bytes b ∷ bs answers what: 6; 4 for the first byte, or for a later one where the first gets its section; 5 for the first
+-- byte, which fits; there is no other answer. An empty run is accepted with the counts as they are (`no-op-bytes`, proofs/OpBytesAnswers).
+pub record OpBytesAnswers (w b : ℕ) (bs : List ℕ) (st : Store) : Type 0 where
+  pub damaged-iff : (i k : ℕ)
+      → (callReply w (pushOpBytes (b ∷ bs)) st ≡ refused damaged i k) ↔ ((lastSoundness w st ≡ Damaged i) × (k ≡ 0))
+  pub bytesFull-iff : (i k : ℕ)
+      → (callReply w (pushOpBytes (b ∷ bs)) st ≡ refused bytesFull i k)
+      ↔ First (unsound (lastSoundness w st) ∷ [])
+      (noByteLeft st || not (sectionPasses w (ops (b ∷ bs)) st) && bytesPass (ops (b ∷ bs)) st) i k
+  pub sectionsFull-iff : (i k : ℕ)
+      → (callReply w (pushOpBytes (b ∷ bs)) st ≡ refused sectionsFull i k)
+      ↔ First (unsound (lastSoundness w st) ∷ noByteLeft st ∷ []) (sectionPasses w (ops (b ∷ bs)) st) i k
+  pub accepted-iff : (counts : Assembler)
+      → (callReply w (pushOpBytes (b ∷ bs)) st ≡ accepted counts)
+      ↔ (NoneOf (unsound (lastSoundness w st) ∷ noByteLeft st ∷ sectionPasses w (ops (b ∷ bs)) st ∷ bytesPass (ops (b ∷ bs)) st ∷ [])
+      × (counts ≡ countsOf (withSection w (ops (b ∷ bs)) st)))
+  pub numbers : (n i k : ℕ) → callReply w (pushOpBytes (b ∷ bs)) st ≡ refused n i k → (4 ≤ n) × (n ≤ 6)
+
+-- calls in turn: those before one are accepted, and it is refused so
+pub record FirstRefused (w : ℕ) (ps : List Push) (st : Store) (n i k : ℕ) : Type 0 where
+  pub before : List Push
+  pub call : Push
+  pub others : List Push
+  pub split : ps ≡ before ++ (call ∷ others)
+  pub stored : (counts : Assembler) × (allReply w before st ≡ accepted counts)
+  pub refusal : pushReply w call (eachAfter w before st) ≡ refused n i k
 
 -- an accepted call on an undamaged store: undamaged again, the list as `callList` has it, and the answer is the counts
 pub record Accepted (w : ℕ) (c : Call) (st : Store) (counts : Assembler) : Type 0 where

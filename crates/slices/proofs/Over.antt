@@ -1,12 +1,12 @@
 -- Laws of `over`: a list with others written over it from an index on. Assumes nothing.
-use Prim.Native.Nat.{ℕ, suc, _+_, _≤_, _<_}
+use Prim.Native.Nat.{ℕ, zero, suc, _+_, _≤_, _<_}
 use native.Mathlib.Omega.{arith}
-use native.Mathlib.Nat.{add-zero, add-sub-of-le}
+use native.Mathlib.Nat.{add-zero, zero-add, suc-add, add-sub-of-le}
 use native.Mathlib.Numerals.{add-one}
 use mathlib.Core.Path.{_≡_, sym, ap, ap₂, _∙_, subst}
 use mathlib.Core.List.{List, [], _∷_, _++_, append-assoc, append-nil}
-use lib.ListN.{length, getD, take, drop, set, length-append, length-drop, take-append-drop, List·getD-append}
-use lib.Seq.{paste, take-length, drop-length, slice, length-take-le, take-at, drop-at, drop-drop, drop-append-le, getD-append-add, set-split, take-set-le}
+use lib.ListN.{length, getD, take, drop, set, length-append, length-drop, length-set, take-append-drop, List·getD-append}
+use lib.Seq.{paste, take-length, drop-length, slice, length-take-le, take-at, drop-at, drop-drop, drop-append-le, getD-append-add, set-split, set-append-left, take-set-le}
 use borrow.Author.Tests.{le-leb, lt-leb}
 use Rattle.slices.specs.Over.{over, overIfRoom}
 
@@ -103,3 +103,16 @@ over-set old i n b xs e h =
 -- one byte set is one byte written
 pub over-one : (old : List ℕ) (i b : ℕ) → i < length old → set old i b ≡ over old i (b ∷ [])
 over-one old i b h = set-split old i b h ∙ ap (λ (k : ℕ). take i old ++ (b ∷ drop k old)) (sym (add-one i))
+
+-- ---- one element of a part replaced
+
+-- an element behind the first list
+set-behind : (xs ys : List ℕ) (j a : ℕ) → set (xs ++ ys) (length xs + j) a ≡ xs ++ set ys j a
+set-behind [] ys j a = rw (zero-add j)
+set-behind (x ∷ xs) ys j a = rw (suc-add (length xs) j) (ap (λ (r : List ℕ). x ∷ r) (set-behind xs ys j a))
+
+pub set-over : (old : List ℕ) (i : ℕ) (new : List ℕ) (j a : ℕ) → i ≤ length old → j < length new → set (over old i new) (i + j) a ≡ over old i (set new j a)
+set-over old i new j a h l =
+    subst (λ (k : ℕ). set (over old i new) (k + j) a ≡ take i old ++ set (new ++ drop (i + length new) old) j a) (length-take-le i old h) (set-behind (take i old) (new ++ drop (i + length new) old) j a)
+    ∙ ap (λ (r : List ℕ). take i old ++ r) (set-append-left new (drop (i + length new) old) j a l)
+    ∙ ap (λ (k : ℕ). take i old ++ (set new j a ++ drop (i + k) old)) (sym (length-set new j a))
