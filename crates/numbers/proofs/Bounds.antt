@@ -2,26 +2,30 @@
 -- Assumes nothing.
 use Prim.Native.Nat.{ℕ, _+_, _*_, _%_, _^_, _≤_, _<_, min}
 use native.Mathlib.Omega.{arith}
-use mathlib.Core.Path.{_≡_, refl}
+use mathlib.Core.Path.{_≡_, refl, sym, ap, _∙_, subst}
 use mathlib.Core.Bool.{Bool, true, false, cond, not, _&&_, and-eq-true-iff as and-true}
 use mathlib.Mathlib.Data.Bool.Basic.{or-eq-false-eq-eq-false-and-eq-false as or-false}
 use mathlib.Core.Logic.{_⊎_, inl, inr}
+use mathlib.Core.List.{List, [], _∷_}
 use lib.ListN.{length}
 use borrow.Author.Tests.{leb-true, ltb-false, not-false}
 use Rattle.units.specs.Replies.{refusalNumbers}
+use Rattle.units.specs.Reply.{accepted, refused}
 use Rattle.units.specs.declared.reply.Refusal.{Refusal}
 use Rattle.slices.proofs.Tests.{cond-case}
-use Rattle.records.specs.Store.{Store, maxBytes, maxSections, badCounts}
+use Rattle.records.specs.declared.Assembler.{Assembler}
+use Rattle.records.specs.Store.{Store, countsOf, maxBytes, maxSections, badCounts}
 use Rattle.records.specs.Sections.{Section}
 use Rattle.records.specs.Damage.{wholeSoundness, badCount, badCountBuilding, lastSoundness}
 use Rattle.records.specs.declared.damage.Soundness.{Soundness}
 use Rattle.records.specs.declared.damage.Soundness.the-variants.{Sound, Damaged}
 use Rattle.undamaged.specs.View.{FirstBreak, LastBreak}
 use Rattle.undamaged.proofs.Soundness.{damaged-at-iff, last-damaged-iff}
-use Rattle.calls.specs.Calls.{Push, hasBadDepth, hasBadWord, hasLargeMark, added, joins, joined, appended, withSection, bytesPass, bytesOf, noSectionLeft, sectionPasses, roomReply, soundReply, addReply, pushReply}
+use Rattle.calls.specs.Calls.{BuiltReply, Push, hasBadDepth, hasBadWord, hasLargeMark, added, joins, joined, appended, withSection, bytesPass, bytesOf, noSectionLeft, sectionPasses, roomReply, soundReply, addReply, pushReply, pushAfter, allReply}
 use Rattle.calls.proofs.Rooms.{sound-counts, left-fits}
+use Rattle.calls.proofs.Refusals.{push-answers, accepted-added, all-next, all-refused}
 use Rattle.numbers.specs.Numbers.{packed, refusalNumber}
-use Rattle.numbers.specs.Packs.{Packs, BuiltPacks}
+use Rattle.numbers.specs.Packs.{Packs, CountsPack, BuiltPacks}
 
 -- counts that aren't bad are within the limits
 within : (w : ℕ) (st : Store) → badCounts w st ≡ false
@@ -90,6 +94,31 @@ push-packs w p st =
     cond-case BuiltPacks (hasBadDepth p) _ _ (λ h. (omega arith, (omega arith, omega arith, omega arith)))
     (λ h. cond-case BuiltPacks (hasBadWord p) _ _ (λ i. (omega arith, (omega arith, omega arith, omega arith)))
     (λ i. cond-case BuiltPacks (hasLargeMark p) _ _ (λ j. (omega arith, (omega arith, omega arith, omega arith))) (λ j. add-packs w (added p) st)))
+
+-- ---- calls in turn, all or nothing
+
+-- accepted, the counts are those of the answer
+pushed-counts : (w : ℕ) (p : Push) (st : Store) (a : Assembler) → pushReply w p st ≡ accepted a → a ≡ countsOf (pushAfter w p st)
+pushed-counts w p st a e = push-answers w p st .accepted-iff a .0 e .1 ∙ sym (ap countsOf (accepted-added w p st a e))
+
+-- one call, and then the others
+then-packs : (w : ℕ) (p : Push) (ps : List Push) (st : Store)
+    → (CountsPack (countsOf (pushAfter w p st)) → BuiltPacks (allReply w ps (pushAfter w p st))) → BuiltPacks (allReply w (p ∷ ps) st)
+then-packs w p ps st rest = go (pushReply w p st) refl (push-packs w p st)
+  where
+    go : (r : BuiltReply) → pushReply w p st ≡ r → BuiltPacks r → BuiltPacks (allReply w (p ∷ ps) st)
+    go (accepted a) e h = rw (all-next w p ps st a e) (rest (subst CountsPack (pushed-counts w p st a e) h))
+    go (refused n i k) e h = rw (all-refused w p ps st n i k e) h
+
+-- no call answers the counts as they are
+all-packs : (w : ℕ) (ps : List Push) (st : Store) → CountsPack (countsOf st) → BuiltPacks (allReply w ps st)
+unfolding allReply
+all-packs w [] st h = h
+all-packs w (p ∷ ps) st h = then-packs w p ps st (λ q. all-packs w ps (pushAfter w p st) q)
+
+-- some call has judged them
+pub some-packs : (w : ℕ) (p : Push) (ps : List Push) (st : Store) → BuiltPacks (allReply w (p ∷ ps) st)
+some-packs w p ps st = then-packs w p ps st (λ q. all-packs w ps (pushAfter w p st) q)
 
 -- ---- refusals as the code has them
 

@@ -2,7 +2,7 @@
 use Prim.Native.Nat.{ℕ, _*_, _/_, _%_, _^_, _≤_, _<_}
 use native.Mathlib.Omega.{arith}
 use mathlib.Core.Path.{_≡_, refl}
-use mathlib.Core.List.{List}
+use mathlib.Core.List.{List, _∷_}
 use mathlib.Core.Bool.{Bool, true, false, not, _&&_}
 use lib.ListN.{length}
 use lib.Dec.{leb}
@@ -12,11 +12,11 @@ use Rattle.records.specs.declared.Assembler.{Assembler}
 use Rattle.records.specs.Store.{Store, maxBytes, maxSections, badCounts}
 use Rattle.records.specs.Damage.{badCount, wholeSoundness, badCountBuilding, lastSoundness}
 use Rattle.records.specs.declared.damage.Soundness.the-variants.{Damaged}
-use Rattle.calls.specs.Calls.{BuiltReply, Push, pushReply}
+use Rattle.calls.specs.Calls.{BuiltReply, Push, pushReply, allReply}
 use Rattle.calls.proofs.Refusals.{push-answers}
 use Rattle.numbers.specs.Numbers.{packed, numberIn, midIn, lowIn, countsIn, storeIn, stateNumber, replyNumber, replyIn, builtNumber, builtIn}
 use Rattle.numbers.specs.Packs.{Packs, ReplyPacks, CountsPack, BuiltPacks}
-use Rattle.numbers.proofs.Bounds.{push-packs}
+use Rattle.numbers.proofs.Bounds.{push-packs, some-packs}
 
 -- number, mid and low come back out
 module _ (number mid low : ℕ) (h : Packs number mid low) where
@@ -48,10 +48,18 @@ state-back counts h =
 pub stored-state : (counts : Assembler) → BuiltPacks (accepted counts) → countsIn (builtNumber (accepted counts)) ≡ counts
 stored-state counts h = state-back counts (h .2)
 
--- every answer that is given comes back out: the number determines it
+-- an answer that packs comes back out: the number determines it
+packed-back : (r : BuiltReply) → BuiltPacks r → builtIn (builtNumber r) ≡ r
+packed-back r h = reply-back stateNumber countsIn CountsPack (λ counts q. (number-back 0 (counts .sections) (counts .bytes) q, stored-state counts q)) r h
+
+-- so does every answer that is given
 pub built-back : (w : ℕ) (p : Push) (st : Store) → builtIn (builtNumber (pushReply w p st)) ≡ pushReply w p st
-built-back w p st =
-    reply-back stateNumber countsIn CountsPack (λ counts h. (number-back 0 (counts .sections) (counts .bytes) h, stored-state counts h)) (pushReply w p st) (push-packs w p st)
+built-back w p st = packed-back (pushReply w p st) (push-packs w p st)
+
+-- and of calls in turn, a run of op bytes among them. An empty run answers the state that it was given (`run-empty`, proofs/Adds): one that
+-- is no state, a refusal say, stays what it was.
+pub all-back : (w : ℕ) (p : Push) (ps : List Push) (st : Store) → builtIn (builtNumber (allReply w (p ∷ ps) st)) ≡ allReply w (p ∷ ps) st
+all-back w p ps st = packed-back (allReply w (p ∷ ps) st) (some-packs w p ps st)
 
 -- a building call answers no number above 6: 255 is left to a form that names nothing
 pub built-below : (w : ℕ) (p : Push) (st : Store) → numberIn (builtNumber (pushReply w p st)) ≤ 6
@@ -77,7 +85,8 @@ module _ (w answer : ℕ) (bytes words : List ℕ) (refused : 1 ≤ numberIn ans
       third-fails (leb (answer % 2 ^ 32) (length bytes)) (leb (answer % 2 ^ 32) maxBytes) (leb (answer / 2 ^ 32) maxSections) (leb (w * (answer / 2 ^ 32)) (length words))
       (lt-leb (answer / 2 ^ 32) maxSections (omega arith))
 
-  -- so every later call that tests the store finds 6 at section 0; 1, 2, 3 and 255 come before that test, and `clear` has none
+  -- so every later call that tests the store finds 6 at section 0; 1, 2, 3 and 255 come before that test, and `clear` and an empty run have
+  -- none
   pub refused-last : lastSoundness w (storeIn answer bytes words) ≡ Damaged 0
   unfolding lastSoundness badCountBuilding
   refused-last = rw refused-counts

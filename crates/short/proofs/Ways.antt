@@ -2,15 +2,15 @@
 -- the definition says. Assumes nothing.
 use Prim.Native.Nat.{ℕ, _+_, _*_, _-_, _/_, _%_, _^_, _≤_, _<_, min}
 use native.Mathlib.Omega.{arith}
-use mathlib.Core.Path.{_≡_, refl, sym, ap, _∙_}
+use mathlib.Core.Path.{_≡_, refl, sym, ap, _∙_, subst}
 use mathlib.Core.Bool.{Bool, true, false, cond, and-false}
 use mathlib.Core.List.{List, [], _∷_}
-use lib.Dec.{leb, ltb, eqb}
+use lib.Dec.{ltb, eqb}
 use lib.ListN.{length, set}
-use borrow.Author.Tests.{le-leb, le-ltb, lt-ltb, eq-eqb, ne-eqb, eqb-true, eqb-false}
+use borrow.Author.Tests.{le-ltb, lt-ltb, eq-eqb, ne-eqb, eqb-true, eqb-false}
 use Rattle.records.specs.Record.{opsKind, dataKind, storedSection}
-use Rattle.records.specs.Store.{Store, maxBytes, maxSections, sectionWords, badCounts, wordsPerSection, recordWords}
-use Rattle.records.specs.Damage.{brokenLast, lastBroken, badCountBuilding, lastSoundness}
+use Rattle.records.specs.Store.{Store, maxBytes, maxSections, sectionWords, wordsPerSection, recordWords}
+use Rattle.records.specs.Damage.{brokenLast, lastBroken, lastSoundness}
 use Rattle.records.specs.Sections.{Section, ops}
 use Rattle.records.specs.declared.record.StoredSection.{StoredSection}
 use Rattle.records.specs.declared.damage.Soundness.the-variants.{Sound}
@@ -20,7 +20,9 @@ use Rattle.calls.specs.Calls.{BuiltReply, bytesOf, extends, bytesPass, joins, n
 use Rattle.calls.proofs.Rooms.{left-slice}
 use Rattle.calls.proofs.Alone.{words-appended, words-keep-bytes}
 use Rattle.numbers.specs.Numbers.{packed, storeIn, builtNumber}
-use Rattle.numbers.proofs.Adds.{add-joined, add-appended}
+use Rattle.undamaged.proofs.Soundness.{last-sound-iff}
+use Rattle.calls.specs.Answers.{IsStored}
+use Rattle.numbers.proofs.Adds.{add-joined, add-appended, stored-joined, stored-appended}
 use Rattle.short.specs.Tried.{Tried, TriedSection, TriedWords, dataSection, spanSection}
 use Rattle.short.specs.Tests.{Takes, Extends, Begins, endMoved}
 use Rattle.short.proofs.Whole.{whole-bytes}
@@ -29,12 +31,12 @@ use Rattle.short.proofs.Whole.{whole-bytes}
 
 -- the test said no
 pub nothing-tried : {reply : BuiltReply} {after before : Store} → Tried reply after before 0 (before .bytes) (before .words)
-nothing-tried = record { left = λ _. (refl, refl); done = λ n. absurd (n refl) }
+nothing-tried = record { left = λ _. (refl, refl); done = λ n. absurd (n refl); stored = λ n. absurd (n refl) }
 
--- it said yes, and the next state is no 0
-pub all-done : {reply : BuiltReply} {after before : Store} {answer : ℕ} {bytes words : List ℕ} → 0 < answer
+-- it said yes, the call is accepted, and the next state is no 0
+pub all-done : {reply : BuiltReply} {after before : Store} {answer : ℕ} {bytes words : List ℕ} → 0 < answer → IsStored reply
     → (answer ≡ builtNumber reply) × ((bytes ≡ after .bytes) × (words ≡ after .words)) → Tried reply after before answer bytes words
-all-done h all = record { left = λ z. absurd (omega (arith, h, z)); done = λ _. all }
+all-done h t all = record { left = λ z. absurd (omega (arith, h, z)); done = λ _. all; stored = λ _. t }
 
 -- the answer and the slices as the code has them
 pub tried-as : {reply : BuiltReply} {after before : Store} {answer answer′ : ℕ} {bytes bytes′ words words′ : List ℕ}
@@ -48,15 +50,9 @@ module _ (st : Store) where
   sound-by :
       0 < st .sections → st .storedBytes ≤ length (st .bytes) → st .storedBytes ≤ maxBytes → st .sections ≤ maxSections → wordsPerSection * st .sections ≤ length (st .words)
       → brokenLast (sectionWords wordsPerSection st (st .sections - 1)) (st .storedBytes) ≡ false → lastSoundness wordsPerSection st ≡ Sound
-  unfolding lastSoundness badCountBuilding badCounts lastBroken
+  unfolding lastBroken
   sound-by some held limit few fit last =
-      let a : leb (st .storedBytes) (length (st .bytes)) ≡ true = le-leb _ _ held in
-      let b : leb (st .storedBytes) maxBytes ≡ true = le-leb _ _ limit in
-      let c : leb (st .sections) maxSections ≡ true = le-leb _ _ few in
-      let d : leb (wordsPerSection * st .sections) (length (st .words)) ≡ true = le-leb _ _ fit in
-      let n : eqb (st .sections) 0 ≡ false = ne-eqb _ 0 (λ (z : st .sections ≡ 0). omega (arith, some)) in
-      let s : ltb 0 (st .sections) ≡ true = lt-ltb _ _ some in
-      rw (a, b, c, d, n, and-false (ltb 0 (st .storedBytes)), s, last)
+      last-sound-iff wordsPerSection st .1 ((held, limit, few, fit), λ z. absurd (omega (arith, some, z)), λ _. last)
 
   module _ (t : Takes wordsPerSection st) where
     takes-sound : lastSoundness wordsPerSection st ≡ Sound
@@ -105,9 +101,11 @@ module _ (state : ℕ) (bytes words : List ℕ) where
       let room = le-ltb (min (length bytes) maxBytes) (state % 2 ^ 32 + n) (omega (arith, e .room, e .limit)) in
       let some : ltb 0 (state / 2 ^ 32) ≡ true = lt-ltb _ _ (e .some) in
       let kinds : eqb kind k ≡ true = eq-eqb kind k (e .last .isKind) in
-      let all = add-joined wordsPerSection s here (extends-sound here k n e l h) room (rw (some, same kind, kinds)) in
+      let sound = extends-sound here k n e l h in
+      let joining : joins wordsPerSection s here ≡ true = rw (some, same kind, kinds) in
+      let all = add-joined wordsPerSection s here sound room joining in
       let next : state + n ≡ packed 0 (state / 2 ^ 32) (state % 2 ^ 32 + n) = omega arith in
-      all-done (omega (arith, e .some)) (next ∙ all .0, all .1)
+      all-done (omega (arith, e .some)) (stored-joined wordsPerSection s here sound room joining) (next ∙ all .0, all .1)
 
   -- op bytes or data, by the kind
   pub span-extended :
@@ -130,10 +128,13 @@ module _ (state : ℕ) (bytes words : List ℕ) where
   op-begun op b =
       let kind = sectionWords wordsPerSection here (state / 2 ^ 32 - 1) .kind in
       let room = le-ltb (min (length bytes) maxBytes) (state % 2 ^ 32 + 1) (omega (arith, b .room, b .limit)) in
-      let apart : eqb kind opsKind ≡ false = ne-eqb kind opsKind (b .apart) in
-      let all = add-appended wordsPerSection (ops (op ∷ [])) here (takes-sound here (b .takes)) room (rw apart (and-false (ltb 0 (state / 2 ^ 32)))) (takes-free here (b .takes)) in
+      let other : eqb kind opsKind ≡ false = ne-eqb kind opsKind (b .apart) in
+      let apart : joins wordsPerSection (ops (op ∷ [])) here ≡ false = rw other (and-false (ltb 0 (state / 2 ^ 32))) in
+      let sound = takes-sound here (b .takes) in
+      let free = takes-free here (b .takes) in
+      let all = add-appended wordsPerSection (ops (op ∷ [])) here sound room apart free in
       let next : state + 2 ^ 32 + 1 ≡ packed 0 (state / 2 ^ 32 + 1) (state % 2 ^ 32 + 1) = omega arith in
-      all-done (omega arith) (next ∙ all .0, (over-one bytes (state % 2 ^ 32) op (b .room) ∙ all .1 .0, all .1 .1))
+      all-done (omega arith) (stored-appended wordsPerSection (ops (op ∷ [])) here sound room apart free) (next ∙ all .0, (over-one bytes (state % 2 ^ 32) op (b .room) ∙ all .1 .0, all .1 .1))
 
   -- three words after a last section
   pub words-put : (x : StoredSection) → Takes wordsPerSection here
@@ -141,4 +142,4 @@ module _ (state : ℕ) (bytes words : List ℕ) where
   words-put x t =
       let all = words-appended wordsPerSection x here (takes-sound here t) (takes-free here t) in
       let next : state + 2 ^ 32 ≡ packed 0 (state / 2 ^ 32 + 1) (state % 2 ^ 32) = omega arith in
-      all-done (omega arith) (next ∙ ap builtNumber (all .0), (sym (words-keep-bytes wordsPerSection x here), all .1))
+      all-done (omega arith) (subst IsStored (all .0) tt) (next ∙ ap builtNumber (all .0), (sym (words-keep-bytes wordsPerSection x here), all .1))

@@ -1,4 +1,4 @@
--- What a short way answers: 0 with nothing changed, or the next state, and then all is as document 01 says of the call.
+-- What a short way answers: 0 with nothing changed, or the next state of an accepted call, and then all is as document 01 says of it.
 -- Which of the two is left to its test. Assumes nothing.
 use mathlib.Core.Path.{_≡_}
 use Prim.Native.Nat.{ℕ}
@@ -11,12 +11,14 @@ use Rattle.records.specs.Store.{Store, wordsPerSection}
 use Rattle.records.specs.Sections.{Section, ops, bytes}
 use Rattle.calls.specs.Calls.{BuiltReply, addReply, addAfter}
 use Rattle.calls.specs.Alone.{wordsReply, wordsAfter}
+use Rattle.calls.specs.Answers.{IsStored}
 use Rattle.numbers.specs.Numbers.{builtNumber}
 
 -- the answer and the two slices at exit, by the reply and the store afterwards, and the store before
 pub record Tried (reply : BuiltReply) (after before : Store) (answer : ℕ) (bytes words : List ℕ) : Type 0 where
   pub left : answer ≡ 0 → (bytes ≡ before .bytes) × (words ≡ before .words)
   pub done : (answer ≡ 0 → ⊥) → (answer ≡ builtNumber reply) × ((bytes ≡ after .bytes) × (words ≡ after .words))
+  pub stored : (answer ≡ 0 → ⊥) → IsStored reply
 
 -- of a section
 abbrev pub TriedSection : Section → Store → ℕ → List ℕ → List ℕ → Type 0
