@@ -1,7 +1,7 @@
 -- Op bytes and data: the tests and what is added, said once for both kinds. Assumes nothing.
 use Prim.Native.Nat.{ℕ, _+_, _*_, _-_}
-use mathlib.Core.Path.{_≡_, refl}
-use mathlib.Core.Bool.{true, false}
+use mathlib.Core.Path.{_≡_, refl, ap}
+use mathlib.Core.Bool.{Bool, true, false, not, _&&_}
 use mathlib.Core.List.{List}
 use lib.ListN.{length, set}
 use Rattle.records.specs.Record.{storedSection}
@@ -10,10 +10,10 @@ use Rattle.records.specs.Store.{Store, recordWords}
 use Rattle.records.specs.Damage.{lastSoundness}
 use Rattle.records.specs.Sections.{ops, bytes}
 use Rattle.records.specs.declared.damage.Soundness.the-variants.{Sound}
-use Rattle.calls.specs.Calls.{joins, bytesOver, bytesPass, noSectionLeft}
+use Rattle.calls.specs.Calls.{joins, bytesOver, bytesPass, noSectionLeft, sectionPasses}
 use Rattle.numbers.specs.Numbers.{packed}
 use Rattle.numbers.proofs.Adds.{Adds, add-joined, add-appended}
-use Rattle.adding.specs.Adding.{kindNumber, bytesSection, lastKindIs}
+use Rattle.adding.specs.Adding.{kindNumber, bytesSection, lastKindIs, opsSectionPasses}
 use Rattle.adding.specs.declared.BytesKind.{BytesKind}
 use Rattle.adding.specs.declared.BytesKind.the-variants.{Ops, Data}
 
@@ -28,6 +28,11 @@ pub joins-is : (w : ℕ) (k : BytesKind) (bs : List ℕ) (st : Store)
 unfolding joins lastKindIs
 joins-is w Ops bs st = refl
 joins-is w Data bs st = refl
+
+-- 5, of op bytes
+pub section-is : (w : ℕ) (bs : List ℕ) (st : Store) → opsSectionPasses w (st .sections) (st .words) ≡ sectionPasses w (ops bs) st
+unfolding sectionPasses
+section-is w bs st = ap (λ (t : Bool). not t && noSectionLeft w (st .sections) (st .words)) (joins-is w Ops bs st)
 
 pub bytes-joined : (w : ℕ) (k : BytesKind) (bs : List ℕ) (st : Store)
     → lastSoundness w st ≡ Sound → bytesPass (bytesSection k bs) st ≡ false → joins w (bytesSection k bs) st ≡ true

@@ -1,5 +1,5 @@
 // Document 01, module 2: what every building call comes to, by a state's number: 6, 4 and 5 are judged for the whole call, in this
-// order, and only then is anything written.
+// order, and only then is anything written. A run of op bytes (document 02, request 1) is judged byte by byte.
 use numbers::counts_in;
 use numbers::refusal_number;
 use numbers::state_of;
@@ -12,14 +12,15 @@ use records::write_words;
 use slices::write_bytes;
 use units::Refusal;
 ghost use mathlib.Core.Path.{_≡_};
-ghost use Prim.Native.Nat.{_+_, _*_, _-_, _≤_, _<_};
+ghost use Prim.Native.Nat.{_+_, _*_, _-_, _^_, _≤_, _<_};
 ghost use lib.ListN.{length, set};
 ghost use Rattle.records.specs.Record.{storedSection};
 ghost use Rattle.records.specs.Store.{wordsPerSection};
 ghost use Rattle.calls.specs.Calls.{bytesOver, noSectionLeft, addReply, addAfter};
 ghost use Rattle.calls.specs.Alone.{wordsReply, wordsAfter};
+ghost use Rattle.calls.specs.AtOnce.{atOnceReply, atOnceAfter};
 ghost use Rattle.numbers.specs.Numbers.{storeIn, builtNumber};
-ghost use Rattle.adding.specs.Adding.{kindNumber, bytesSection, lastKindIs};
+ghost use Rattle.adding.specs.Adding.{kindNumber, bytesSection, lastKindIs, opsSectionPasses};
 
 // The two kinds of section that hold bytes.
 pub enum BytesKind {
@@ -46,7 +47,7 @@ pub fn add_bytes(
     if let Soundness::Damaged(section) = check_last(store, bytes, words) {
         return refusal_number(Refusal::Damaged { section });
     }
-    if bytes_pass(store, bytes, added) {
+    if bytes_pass(store, bytes, added.len()) {
         return refusal_number(Refusal::BytesFull);
     }
     let at = store.bytes;
@@ -70,6 +71,29 @@ pub fn add_bytes(
         bytes: end,
         sections: sections + 1,
     })
+}
+
+// Adds a run of op bytes, judged byte by byte, all or nothing. Refusals: 6, 4 (no room for one byte), 5, 4 (no room for all).
+// Judged here is the first byte: where it is accepted, no later one needs a section, and only the room for all is left to be judged.
+pub fn add_run(state: u64, bytes: &mut [u8], words: &mut [u32], run: &[u8]) -> u64
+    ensures reply { λ r. ⌜ r ≡ builtNumber (atOnceReply wordsPerSection (now (run .entry))
+        (storeIn state (now (bytes .entry)) (now (words .entry)))) ⌝ }
+    ensures bytes { λ _. ⌜ now (bytes .exit) ≡ atOnceAfter wordsPerSection (now (run .entry))
+        (storeIn state (now (bytes .entry)) (now (words .entry))) .bytes ⌝ }
+    ensures words { λ _. ⌜ now (words .exit) ≡ atOnceAfter wordsPerSection (now (run .entry))
+        (storeIn state (now (bytes .entry)) (now (words .entry))) .words ⌝ }
+{
+    let store = counts_in(state);
+    if let Soundness::Damaged(section) = check_last(store, bytes, words) {
+        return refusal_number(Refusal::Damaged { section });
+    }
+    if bytes_pass(store, bytes, 1) {
+        return refusal_number(Refusal::BytesFull);
+    }
+    if ops_section_passes(store.sections, words) {
+        return refusal_number(Refusal::SectionsFull);
+    }
+    add_bytes(state, bytes, words, BytesKind::Ops, run)
 }
 
 // Adds a section that nothing extends, a mark or a reference, given as its three words. Refusals: 6, 5.
@@ -112,10 +136,11 @@ fn kind_number(kind: BytesKind) -> u32
 }
 
 // 4: the stored bytes and those added pass slice or limit.
-fn bytes_pass(store: Assembler, bytes: &[u8], added: &[u8]) -> bool
-    ensures { λ r. ⌜ r ≡ bytesOver (now (bytes .entry)) (store .bytes) (length (now (added .entry))) ⌝ }
+fn bytes_pass(store: Assembler, bytes: &[u8], added: usize) -> bool
+    requires { ⌜ added < 2 ^ 63 ⌝ }
+    ensures { λ r. ⌜ r ≡ bytesOver (now (bytes .entry)) (store .bytes) added ⌝ }
 {
-    let end = (store.bytes as usize) + added.len();
+    let end = (store.bytes as usize) + added;
     if bytes.len() < end {
         return true;
     }
@@ -144,6 +169,17 @@ fn last_kind_is(sections: u32, words: &[u32], kind: u32) -> bool
     let last = (sections - 1) as usize;
     let found = words[Assembler::WORDS * last];
     found == kind
+}
+
+// 5, of op bytes: they need a section, since the last one isn't Ops, and none is left.
+fn ops_section_passes(sections: u32, words: &[u32]) -> bool
+    requires { ⌜ wordsPerSection * sections ≤ length (now words) ⌝ }
+    ensures { λ r. ⌜ r ≡ opsSectionPasses wordsPerSection sections (now (words .entry)) ⌝ }
+{
+    if last_kind_is(sections, words, kind::OPS) {
+        return false;
+    }
+    no_section_left(sections, words)
 }
 
 // Replaces the end of the last section.

@@ -1,6 +1,7 @@
 // The calls that add op bytes or data.
 use adding::BytesKind;
 use adding::add_bytes;
+use adding::add_run;
 use numbers::refusal_number;
 use units::Refusal;
 ghost use mathlib.Core.Path.{_≡_};
@@ -10,7 +11,7 @@ ghost use Rattle.evm.specs.Opcodes.{swapOp};
 ghost use Rattle.records.specs.Store.{wordsPerSection};
 ghost use Rattle.records.specs.Sections.{ops};
 ghost use Rattle.calls.specs.Calls.{pushOpByte, pushSwap, pushDup, pushExchange, pushData, hasBadDepth, addReply, addAfter};
-ghost use Rattle.calls.specs.Calls.{pushReply, pushAfter};
+ghost use Rattle.calls.specs.Calls.{pushReply, pushAfter, pushOpBytes, callReply, callAfter};
 ghost use Rattle.numbers.specs.Numbers.{storeIn, builtNumber};
 
 // The deepest SWAP.
@@ -33,6 +34,30 @@ pub fn push_op_byte(state: u64, bytes: &mut [u8], words: &mut [u32], byte: u8) -
         return tried;
     }
     begin_op(state, bytes, words, byte)
+}
+
+// Adds a run of op bytes, all or nothing: as `push_op_byte` of each in turn, and the first refusal is the run's. Refusals: 6; 4, no room
+// for one byte; 5; 4, no room for all. An empty run answers the state that it was given, whatever it is.
+pub fn push_op_bytes(state: u64, bytes: &mut [u8], words: &mut [u32], run: &[u8]) -> u64
+    ensures reply { λ r. ⌜ r ≡ builtNumber (callReply wordsPerSection (pushOpBytes (now (run .entry)))
+        (storeIn state (now (bytes .entry)) (now (words .entry)))) ⌝ }
+    ensures bytes { λ _. ⌜ now (bytes .exit) ≡ callAfter wordsPerSection (pushOpBytes (now (run .entry)))
+        (storeIn state (now (bytes .entry)) (now (words .entry))) .bytes ⌝ }
+    ensures words { λ _. ⌜ now (words .exit) ≡ callAfter wordsPerSection (pushOpBytes (now (run .entry)))
+        (storeIn state (now (bytes .entry)) (now (words .entry))) .words ⌝ }
+{
+    if run.len() == 0 {
+        return state;
+    }
+    let extended = short::extend_ops(state, bytes, words, run);
+    if extended != 0 {
+        return extended;
+    }
+    let begun = short::begin_ops(state, bytes, words, run);
+    if begun != 0 {
+        return begun;
+    }
+    add_run(state, bytes, words, run)
 }
 
 // Adds SWAP1 to SWAP16. Refusals: 1 (0 or above 16), 6, 4, 5.

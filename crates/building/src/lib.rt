@@ -1,6 +1,6 @@
 // Document 01, module 2: the building calls by number. Each takes the state's number and is lent the byte slice and the slice of words.
 // It answers the next state, or a refusal with nothing changed. A call judges its own numbers (1, 2, 3), tries the short way, and has
-// every other case judged by `adding` (6, 4, 5).
+// every other case judged by `adding` (6, 4, 5; of a run of op bytes byte by byte).
 mod bytes;
 mod section;
 
@@ -8,6 +8,7 @@ pub use bytes::push_data;
 pub use bytes::push_dup;
 pub use bytes::push_exchange;
 pub use bytes::push_op_byte;
+pub use bytes::push_op_bytes;
 pub use bytes::push_swap;
 pub use minimal::push_minimal_u32;
 pub use minimal::push_minimal_u64;

@@ -16,7 +16,8 @@ use Rattle.records.specs.declared.damage.Soundness.the-variants.{Sound, Damaged
 use Rattle.records.specs.Store.{Store, countsOf}
 use Rattle.records.specs.Damage.{lastSoundness}
 use Rattle.calls.specs.Calls.{BuiltReply, Push, hasBadDepth, hasBadWord, hasLargeMark, added, withSection, bytesPass, sectionPasses, roomReply, soundReply, addReply, pushReply, ifStored, pushAfter, allReply, eachAfter, allAfter}
-use Rattle.calls.specs.Answers.{NoneOf, PushAnswers}
+use Rattle.records.specs.Sections.{Section}
+use Rattle.calls.specs.Answers.{NoneOf, PushAnswers, IsStored}
 use Rattle.undamaged.specs.View.{unsound}
 use Rattle.undamaged.proofs.Soundness.{sectionFound}
 
@@ -178,6 +179,22 @@ module _ (w : ℕ) (p : Push) (st : Store) where
   pub accepted-added : (a : Assembler) → pushReply w p st ≡ accepted a → pushAfter w p st ≡ withSection w (added p) st
   unfolding pushAfter
   accepted-added a e = ap (λ (r : BuiltReply). ifStored r (withSection w (added p) st) st) e
+
+-- ---- a section added
+
+-- where it is accepted, no test has passed
+pub add-stored : (w : ℕ) (s : Section) (st : Store) → IsStored (addReply w s st)
+    → (lastSoundness w st ≡ Sound) × (bytesPass s st ≡ false) × (sectionPasses w s st ≡ false)
+unfolding addReply roomReply
+add-stored w s st = go (lastSoundness w st) (bytesPass s st) (sectionPasses w s st)
+  where
+    go : (t : Soundness) (b p : Bool)
+        → IsStored (soundReply t (cond b (refused bytesFull 0 0) (cond p (refused sectionsFull 0 0) (accepted (countsOf (withSection w s st))))))
+        → (t ≡ Sound) × (b ≡ false) × (p ≡ false)
+    go Sound false false h = (refl, refl, refl)
+    go Sound false true h = absurd h
+    go Sound true p h = absurd h
+    go (Damaged i) b p h = absurd h
 
 -- ---- calls in turn, all or nothing
 

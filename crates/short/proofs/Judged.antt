@@ -1,21 +1,26 @@
 -- A call whose own numbers are judged: what was tried, or else judged by `adding`, is what the call answers and leaves.
 -- Assumes nothing.
-use Prim.Native.Nat.{ℕ, _%_}
+use Prim.Native.Nat.{ℕ, _+_, _%_, _^_, min}
+use native.Mathlib.Omega.{arith}
 use mathlib.Core.Path.{_≡_, refl, ap, _∙_}
 use mathlib.Core.Bool.{true, false}
 use mathlib.Core.List.{List}
 use lib.Dec.{leb}
+use lib.ListN.{length}
+use borrow.Author.Tests.{le-ltb, ltb-false}
 use Rattle.units.specs.declared.MarkReference.{MarkReference}
 use Rattle.records.specs.declared.record.StoredSection.{StoredSection}
 use Rattle.records.specs.Record.{setSizeOf}
-use Rattle.records.specs.Store.{Store, wordsPerSection}
-use Rattle.records.specs.Sections.{Section}
-use Rattle.calls.specs.Calls.{Push, pushReference, hasBadDepth, hasBadWord, hasLargeMark, added, wordsOf, pushReply, pushAfter}
+use Rattle.records.specs.Store.{Store, wordsPerSection, maxBytes}
+use Rattle.records.specs.Sections.{Section, ops}
+use Rattle.calls.specs.Calls.{Push, pushReference, hasBadDepth, hasBadWord, hasLargeMark, added, wordsOf, bytesPass, pushReply, pushAfter}
+use Rattle.calls.specs.AtOnce.{noByteLeft}
+use Rattle.calls.proofs.Refusals.{add-stored}
 use Rattle.calls.specs.Alone.{StandsAlone, wordsReply, wordsAfter}
 use Rattle.calls.proofs.Alone.{alone-reply, alone-after}
 use Rattle.numbers.specs.Numbers.{storeIn, builtNumber}
 use Rattle.numbers.specs.Forms.{formOf, formed, isForm, referenceNumber, referenceAfter}
-use Rattle.numbers.proofs.Adds.{Adds, Pushes, push-adds}
+use Rattle.numbers.proofs.Adds.{Adds, Pushes, Runs, push-adds, once-adds, run-judged}
 use Rattle.numbers.proofs.Forms.{form-named}
 use Rattle.short.specs.Tried.{TriedSection, TriedWords}
 
@@ -48,6 +53,22 @@ module _ (state : ℕ) (bytes words : List ℕ) where
         → {answer : ℕ} {bs′ ws′ : List ℕ} → Adds wordsPerSection s (storeIn state bs ws) answer bs′ ws′
         → Pushes wordsPerSection p (storeIn state bytes words) answer bs′ ws′
     push-judged t z made = pushed (add-judged _ t z made)
+
+  -- a run of op bytes that was tried: accepted as a whole, it is accepted byte by byte
+  module _ (run : List ℕ) {tried : ℕ} {bs ws : List ℕ} (t : TriedSection (ops run) (storeIn state bytes words) tried bs ws) where
+    pub run-done : (length run ≡ 0 → ⊥) → (tried ≡ 0 → ⊥) → Runs wordsPerSection run (storeIn state bytes words) tried bs ws
+    unfolding bytesPass
+    run-done some h =
+        let st = storeIn state bytes words in
+        let tests = add-stored wordsPerSection (ops run) st (t .stored h) in
+        let fits = ltb-false (min (length bytes) maxBytes) (state % 2 ^ 32 + length run) (tests .1) in
+        let byte : noByteLeft st ≡ false = le-ltb (min (length bytes) maxBytes) (state % 2 ^ 32 + 1) (omega (arith, fits, some)) in
+        run-judged wordsPerSection run st _ _ _ (omega arith) some (once-adds wordsPerSection run st (tests .0) byte (tests .2) _ _ _ (t .done h))
+
+    -- or tried in vain, and then judged
+    pub run-left : tried ≡ 0 → {answer : ℕ} {bs′ ws′ : List ℕ} → Runs wordsPerSection run (storeIn state bs ws) answer bs′ ws′
+        → Runs wordsPerSection run (storeIn state bytes words) answer bs′ ws′
+    run-left z made = rw (t .left z .0, t .left z .1) at made
 
   -- three words that were tried in vain, and then judged
   pub words-judged : (x : StoredSection) {tried : ℕ} {ws : List ℕ} → TriedWords x (storeIn state bytes words) tried bytes ws → tried ≡ 0

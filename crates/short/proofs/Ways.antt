@@ -15,7 +15,6 @@ use Rattle.records.specs.Sections.{Section, ops}
 use Rattle.records.specs.declared.record.StoredSection.{StoredSection}
 use Rattle.records.specs.declared.damage.Soundness.the-variants.{Sound}
 use Rattle.slices.specs.Over.{over}
-use Rattle.slices.proofs.Over.{over-one}
 use Rattle.calls.specs.Calls.{BuiltReply, bytesOf, extends, bytesPass, joins, noSectionLeft}
 use Rattle.calls.proofs.Rooms.{left-slice}
 use Rattle.calls.proofs.Alone.{words-appended, words-keep-bytes}
@@ -120,21 +119,21 @@ module _ (state : ℕ) (bytes words : List ℕ) where
           let isOps : opsKind ≡ k = omega (arith, eqb-false k dataKind t) in
           bytes-extended (ops bs) k l h (λ kind. ap (eqb kind) isOps) e
 
-  -- an op byte that begins a section
-  pub op-begun : (op : ℕ) → Begins wordsPerSection here
-      → TriedSection (ops (op ∷ [])) here (state + 2 ^ 32 + 1) (set bytes (state % 2 ^ 32) op)
-      (over words (wordsPerSection * (state / 2 ^ 32)) (recordWords wordsPerSection (storedSection opsKind (state % 2 ^ 32) (state % 2 ^ 32 + 1))))
+  -- op bytes that begin a section
+  pub ops-begun : (bs : List ℕ) → Begins wordsPerSection (length bs) here
+      → TriedSection (ops bs) here (state + 2 ^ 32 + length bs) (over bytes (state % 2 ^ 32) bs)
+      (over words (wordsPerSection * (state / 2 ^ 32)) (recordWords wordsPerSection (storedSection opsKind (state % 2 ^ 32) (state % 2 ^ 32 + length bs))))
   unfolding bytesPass joins
-  op-begun op b =
+  ops-begun bs b =
       let kind = sectionWords wordsPerSection here (state / 2 ^ 32 - 1) .kind in
-      let room = le-ltb (min (length bytes) maxBytes) (state % 2 ^ 32 + 1) (omega (arith, b .room, b .limit)) in
+      let room = le-ltb (min (length bytes) maxBytes) (state % 2 ^ 32 + length bs) (omega (arith, b .room, b .limit)) in
       let other : eqb kind opsKind ≡ false = ne-eqb kind opsKind (b .apart) in
-      let apart : joins wordsPerSection (ops (op ∷ [])) here ≡ false = rw other (and-false (ltb 0 (state / 2 ^ 32))) in
+      let apart : joins wordsPerSection (ops bs) here ≡ false = rw other (and-false (ltb 0 (state / 2 ^ 32))) in
       let sound = takes-sound here (b .takes) in
       let free = takes-free here (b .takes) in
-      let all = add-appended wordsPerSection (ops (op ∷ [])) here sound room apart free in
-      let next : state + 2 ^ 32 + 1 ≡ packed 0 (state / 2 ^ 32 + 1) (state % 2 ^ 32 + 1) = omega arith in
-      all-done (omega arith) (stored-appended wordsPerSection (ops (op ∷ [])) here sound room apart free) (next ∙ all .0, (over-one bytes (state % 2 ^ 32) op (b .room) ∙ all .1 .0, all .1 .1))
+      let all = add-appended wordsPerSection (ops bs) here sound room apart free in
+      let next : state + 2 ^ 32 + length bs ≡ packed 0 (state / 2 ^ 32 + 1) (state % 2 ^ 32 + length bs) = omega arith in
+      all-done (omega arith) (stored-appended wordsPerSection (ops bs) here sound room apart free) (next ∙ all .0, all .1)
 
   -- three words after a last section
   pub words-put : (x : StoredSection) → Takes wordsPerSection here

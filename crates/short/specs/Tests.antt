@@ -34,11 +34,11 @@ pub record Extends (w : ℕ) (kind added : ℕ) (st : Store) : Type 0 where
   pub wordsFit : w * st .sections ≤ length (st .words)
   pub last : EndsAt (sectionWords w st (st .sections - 1)) kind (st .storedBytes)
 
--- one op byte is taken, and begins an Ops section
-pub record Begins (w : ℕ) (st : Store) : Type 0 where
+-- so many op bytes are taken, and begin an Ops section
+pub record Begins (w : ℕ) (added : ℕ) (st : Store) : Type 0 where
   pub takes : Takes w st
-  pub room : st .storedBytes < length (st .bytes)
-  pub limit : st .storedBytes < maxBytes
+  pub room : st .storedBytes + added ≤ length (st .bytes)
+  pub limit : st .storedBytes + added ≤ maxBytes
   pub apart : sectionWords w st (st .sections - 1) .kind ≡ opsKind → ⊥
 
 -- the words, with the end of a state's last section moved on by so many bytes

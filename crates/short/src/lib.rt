@@ -46,12 +46,26 @@ pub fn begin_op(state: u64, bytes: &mut [u8], words: &mut [u32], op: u8) -> u64
     ensures { λ r. ⌜ TriedSection (ops (op ∷ [])) (storeIn state (now (bytes .entry)) (now (words .entry))) r
         (now (bytes .exit)) (now (words .exit)) ⌝ }
 {
-    if !begins_ops(state, bytes, words) {
+    if !begins_ops(state, bytes, words, 1) {
         return 0;
     }
     let stored = (state % numbers::SECTION) as u32;
     bytes[stored as usize] = op;
     append_words(state, words, kind::OPS, stored, stored + 1) + 1
+}
+
+// Op bytes that begin an Ops section.
+pub fn begin_ops(state: u64, bytes: &mut [u8], words: &mut [u32], added: &[u8]) -> u64
+    ensures { λ r. ⌜ TriedSection (ops (now (added .entry))) (storeIn state (now (bytes .entry)) (now (words .entry))) r
+        (now (bytes .exit)) (now (words .exit)) ⌝ }
+{
+    if !begins_ops(state, bytes, words, added.len()) {
+        return 0;
+    }
+    let stored = (state % numbers::SECTION) as u32;
+    let count = added.len() as u32;
+    slices::write_bytes(bytes, stored as usize, added);
+    append_words(state, words, kind::OPS, stored, stored + count) + (count as u64)
 }
 
 // Op bytes that extend a last Ops section.

@@ -63,15 +63,16 @@ pub(crate) fn extends(state: u64, bytes: &[u8], words: &[u32], kind: u32, added:
     is_kind_to(words, sections - 1, kind, stored as u32)
 }
 
-// One op byte is taken, and begins an Ops section.
-pub(crate) fn begins_ops(state: u64, bytes: &[u8], words: &[u32]) -> bool
-    ensures { λ r. ⌜ (r ≡ true → Begins wordsPerSection (storeIn state (now (bytes .entry)) (now (words .entry)))) ⌝ }
+// So many op bytes are taken, and begin an Ops section.
+pub(crate) fn begins_ops(state: u64, bytes: &[u8], words: &[u32], added: usize) -> bool
+    requires { ⌜ added < 2 ^ 63 ⌝ }
+    ensures { λ r. ⌜ (r ≡ true → Begins wordsPerSection added (storeIn state (now (bytes .entry)) (now (words .entry)))) ⌝ }
 {
-    let stored = (state % SECTION) as u32;
-    if bytes.len() <= (stored as usize) {
+    let stored = (state % SECTION) as usize;
+    if bytes.len() < stored + added {
         return false;
     }
-    if Assembler::MAX_BYTES <= stored {
+    if (Assembler::MAX_BYTES as usize) < stored + added {
         return false;
     }
     if !takes_section(state, bytes, words) {

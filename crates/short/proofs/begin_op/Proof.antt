@@ -1,7 +1,8 @@
 -- The byte stored, and the words of one section more.
 -- Assumes nothing.
 use native.Mathlib.Omega.{arith}
-use mathlib.Core.Path.{refl}
+use mathlib.Core.List.{[], _∷_}
+use Rattle.slices.proofs.Over.{over-one}
 use borrow.Author.Needs.{needs}
 use borrow.Author.Tests.{not-false}
 use denote.Ref.{now}
@@ -10,7 +11,7 @@ use Rattle.numbers.specs.Numbers.{storeIn}
 use Prim.Native.Nat.{ℕ, _+_}
 use mathlib.Core.Path.{ap}
 use Rattle.short.specs.Tests.{Begins}
-use Rattle.short.proofs.Ways.{nothing-tried, tried-as, op-begun}
+use Rattle.short.proofs.Ways.{nothing-tried, tried-as, ops-begun}
 use Rattle.short.proofs.begin_op.Statement.{statement}
 use Rattle.short.proofs.begin_op.Tie as tie
 
@@ -21,7 +22,7 @@ store-at s = storeIn (s .args .state) (now (s .args .bytes)) (now (s .args .word
 abbrev entry : tie.Else1 → tie.Start
 entry c = c .before .before .before .before .before .before
 
-took : (c : tie.Else1) → Begins wordsPerSection (store-at (entry c))
+took : (c : tie.Else1) → Begins wordsPerSection 1 (store-at (entry c))
 took c = c .before .begins-ops .ensures (not-false _ (c .if1 .left))
 
 begins-ops-requires : tie.Need-begins-ops-requires
@@ -69,8 +70,9 @@ returns-2 c =
     let put = c .before .before in
     let tested = put .before .before in
     let a = entry tested .args in
-    tried-as (ap (λ (n : ℕ). n + 1) (put .append-words .ensures .0)) refl (put .append-words .ensures .1)
-    (op-begun (a .state) (now (a .bytes)) (now (a .words)) (a .op) (took tested))
+    tried-as (ap (λ (n : ℕ). n + 1) (put .append-words .ensures .0)) (over-one (now (a .bytes)) _ (a .op) (omega (arith, took tested .room)))
+    (put .append-words .ensures .1)
+    (ops-begun (a .state) (now (a .bytes)) (now (a .words)) (a .op ∷ []) (took tested))
 
 pub begin-op-spec : {M : Type 1} → statement M
 begin-op-spec =

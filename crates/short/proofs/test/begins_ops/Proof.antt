@@ -7,14 +7,17 @@ use borrow.Author.Needs.{needs}
 use Rattle.short.proofs.test.begins_ops.Statement.{statement}
 use Rattle.short.proofs.test.begins_ops.Tie as tie
 
-cast-stored : tie.Need-cast-stored
-cast-stored c = search needs
-
-cast-if1 : tie.Need-cast-if1
-cast-if1 c = search needs
+add-if1 : tie.Need-add-if1
+add-if1 c = search needs
 
 returns : tie.Need-returns
 returns c = λ h. absurd (false≢true h)
+
+cast-if2 : tie.Need-cast-if2
+cast-if2 c = search needs
+
+add-if2 : tie.Need-add-if2
+add-if2 c = search needs
 
 returns-2 : tie.Need-returns-2
 returns-2 c = λ h. absurd (false≢true h)
@@ -50,8 +53,8 @@ returns-4 c =
     let took = tested .takes-section .ensures (not-false _ (at-if3 .if3 .left)) in
     λ h. record {
       takes = took;
-      room = omega (arith, at-if1 .if1 .left);
-      limit = omega (arith, at-if2 .if2 .left);
+      room = at-if1 .if1 .left;
+      limit = at-if2 .if2 .left;
       apart = eqb-false _ 1 (not-true _ h);
     }
 
@@ -59,9 +62,10 @@ pub begins-ops-spec : {M : Type 1} → statement M
 begins-ops-spec =
     tie.close
     (tie.spec
-    cast-stored
-    cast-if1
+    add-if1
     returns
+    cast-if2
+    add-if2
     returns-2
     takes-section-requires
     returns-3
