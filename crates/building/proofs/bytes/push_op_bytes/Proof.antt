@@ -1,63 +1,89 @@
+-- Nothing of an empty run; at once where the last section is extended, or an Ops section begins; else what judging the run gives.
+-- Assumes nothing.
 use borrow.Author.Needs.{needs}
+use native.Mathlib.Omega.{arith}
+use denote.Ref.{now}
+use Rattle.records.specs.Store.{wordsPerSection}
+use Rattle.numbers.proofs.Adds.{run-empty, run-judged}
+use Rattle.short.proofs.Judged.{run-done, run-left}
 use Rattle.building.proofs.bytes.push_op_bytes.Statement.{statement}
 use Rattle.building.proofs.bytes.push_op_bytes.Tie as tie
-use Rattle.building.proofs.bytes.push_op_bytes.Reads as reads
-use Rattle.building.proofs.bytes.push_op_bytes.Lts as lts
-use Rattle.adding.proofs.add_run.Reads as add-run-reads
-use Rattle.short.proofs.begin_ops.Reads as begin-ops-reads
-use Rattle.short.proofs.extend_ops.Reads as extend-ops-reads
 
--- src/bytes.rt:50:9
+-- the arguments, where the run isn't empty
+abbrev entry : tie.Else1 → tie.Start
+entry c = c .before .before .before .before
+
+abbrev not-empty : tie.After-extend-ops → tie.Else1
+not-empty c = c .before .before .before
+
+-- the two ways tried
+abbrev extended : tie.Else2 → tie.After-extend-ops
+extended c = c .before .before .before .before .before
+
+abbrev begun : tie.Else3 → tie.After-begin-ops
+begun c = c .before .before .before .before .before
+
 returns : tie.Need-returns
-returns c = ?
+returns c =
+    let a = c .before .before .before .before .args in
+    run-empty wordsPerSection (now (a .run)) (a .state) (now (a .bytes)) (now (a .words)) (c .if1 .taken)
 
--- src/bytes.rt:52:9
 extend-ops-requires : tie.Need-extend-ops-requires
 extend-ops-requires c κs = search needs
 
--- src/bytes.rt:54:9
 same-length : tie.Need-same-length
 same-length c = search needs
 
--- src/bytes.rt:54:9
 same-length-2 : tie.Need-same-length-2
 same-length-2 c = search needs
 
--- src/bytes.rt:54:9
 returns-2 : tie.Need-returns-2
-returns-2 c = ?
+returns-2 c =
+    let t = c .before .before .before .before .before in
+    let some = not-empty t in
+    let a = entry some .args in
+    run-done (a .state) (now (a .bytes)) (now (a .words)) (now (a .run)) (t .extend-ops .ensures) (some .if1 .left) (c .if2 .taken)
 
--- src/bytes.rt:56:9
 begin-ops-requires : tie.Need-begin-ops-requires
 begin-ops-requires c κs = search needs
 
--- src/bytes.rt:58:9
 same-length-3 : tie.Need-same-length-3
 same-length-3 c = search needs
 
--- src/bytes.rt:58:9
 same-length-4 : tie.Need-same-length-4
 same-length-4 c = search needs
 
--- src/bytes.rt:58:9
 returns-3 : tie.Need-returns-3
-returns-3 c = ?
+returns-3 c =
+    let b = c .before .before .before .before .before in
+    let left = b .before .before .before in
+    let t = extended left in
+    let some = not-empty t in
+    let a = entry some .args in
+    run-left (a .state) (now (a .bytes)) (now (a .words)) (now (a .run)) (t .extend-ops .ensures) (left .if2 .left)
+    (run-done (a .state) _ _ (now (a .run)) (b .begin-ops .ensures) (some .if1 .left) (c .if3 .taken))
 
--- src/bytes.rt:60:5
 add-run-requires : tie.Need-add-run-requires
 add-run-requires c κs = search needs
 
--- src/bytes.rt:41:1
 same-length-5 : tie.Need-same-length-5
 same-length-5 c = search needs
 
--- src/bytes.rt:41:1
 same-length-6 : tie.Need-same-length-6
 same-length-6 c = search needs
 
--- src/bytes.rt:41:1
 returns-4 : tie.Need-returns-4
-returns-4 c = ?
+returns-4 c =
+    let judged = c .before .before .before .before in
+    let last = judged .before .before .before in
+    let b = begun last in
+    let left = b .before .before .before in
+    let t = extended left in
+    let some = not-empty t in
+    let a = entry some .args in
+    run-left (a .state) (now (a .bytes)) (now (a .words)) (now (a .run)) (t .extend-ops .ensures) (left .if2 .left)
+    (run-left (a .state) _ _ (now (a .run)) (b .begin-ops .ensures) (last .if3 .left)
+    (run-judged wordsPerSection (now (a .run)) _ _ _ _ (omega arith) (some .if1 .left) (judged .add-run .ensures)))
 
 pub push-op-bytes-spec : {M : Type 1} → statement M
 push-op-bytes-spec =
