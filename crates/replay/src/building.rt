@@ -44,7 +44,7 @@ fn byte_call(store: Assembler, kind: u8, a: u32, bytes: &mut [u8], words: &mut [
     }
 }
 
-// Kinds 3 and 8: pool bytes a to b as data, or a minimal push of them, which are a word if they are 32.
+// Kinds 3, 8 and 12: pool bytes a to b as data, or a minimal push of them, which are a word if they are 32, or a run of op bytes.
 fn pool_call(
     store: Assembler,
     step: Step,
@@ -61,6 +61,7 @@ fn pool_call(
     let kind = step.kind;
     match kind {
         8 => say_built(store, store::push_minimal_u256(store, bytes, words, part)),
+        12 => say_built(store, store::push_op_bytes(store, bytes, words, part)),
         _ => say_built(store, store::push_data(store, bytes, words, part)),
     }
 }
@@ -85,7 +86,7 @@ fn minimal_u64(store: Assembler, a: u32, b: u32, bytes: &mut [u8], words: &mut [
     say_built(store, store::push_minimal_u64(store, bytes, words, value))
 }
 
-// Kinds 1 to 11. Kind 1: a mark of number a; 4: a direct reference to mark a with form b; 10: a minimal push of a; 11: both counts to 0.
+// Kinds 1 to 12. Kind 1: a mark of number a; 4: a direct reference to mark a with form b; 10: a minimal push of a; 11: both counts to 0.
 pub(crate) fn build(
     store: Assembler,
     step: Step,
@@ -99,7 +100,7 @@ pub(crate) fn build(
     match kind {
         1 => say_built(store, store::push_mark(store, bytes, words, MarkId(a))),
         2 | 5 | 6 => byte_call(store, kind, a, bytes, words),
-        3 | 8 => pool_call(store, step, pool, bytes, words),
+        3 | 8 | 12 => pool_call(store, step, pool, bytes, words),
         4 => refer(store, MarkReference::Direct(MarkId(a)), b, bytes, words),
         7 => exchange(store, a, b, bytes, words),
         9 => minimal_u64(store, a, b, bytes, words),

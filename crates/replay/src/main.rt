@@ -48,7 +48,7 @@ fn take_step(
     let kind = step.kind;
     match kind {
         0 => memory::start_anew(bytes, words, table, result, text),
-        1..=11 => building::build(store, step, pool, bytes, words),
+        1..=12 => building::build(store, step, pool, bytes, words),
         16..=19 => memory::set(store, step, bytes, words, table),
         20 => assembling::assemble(store, step.a, bytes, words, table, result),
         21 => reading::list(store, bytes, words, text),

@@ -4,7 +4,8 @@ ghost use mathlib.Core.List.{[]};
 ghost use Rattle.units.specs.Reply.{accepted};
 ghost use Rattle.records.specs.Store.{wordsPerSection, emptyCounts};
 ghost use Rattle.calls.specs.Calls.{pushMark, pushOpByte, pushSwap, pushDup, pushExchange, pushData};
-ghost use Rattle.calls.specs.Calls.{pushMinimalU256, pushMinimalU64, pushMinimalU32, clear, callReply, pushReply, pushAfter};
+ghost use Rattle.calls.specs.Calls.{pushMinimalU256, pushMinimalU64, pushMinimalU32, pushReply, pushAfter};
+ghost use Rattle.calls.specs.Calls.{pushOpBytes, clear, callReply, callAfter};
 ghost use Rattle.numbers.specs.Numbers.{storeIn, builtNumber};
 ghost use Rattle.numbers.specs.Forms.{formOf, direct, delta, referenceNumber, referenceAfter};
 
@@ -51,6 +52,25 @@ pub extern "C" fn sadrokki_push_op_byte(
         (storeIn state (now (bytes .entry)) (now (words .entry))) .words ⌝ }
 {
     building::push_op_byte(state, bytes, words, byte)
+}
+
+// Adds a run of op bytes, all or nothing: as `sadrokki_push_op_byte` of each in turn, and the first refusal is the run's. Refusals: 6; 4, no
+// room for one byte; 5; 4, no room for all. An empty run answers the state that it was given, whatever it is.
+#[no_mangle]
+pub extern "C" fn sadrokki_push_op_bytes(
+    state: u64,
+    bytes: &mut [u8],
+    words: &mut [u32],
+    run: &[u8],
+) -> u64
+    ensures reply { λ r. ⌜ r ≡ builtNumber (callReply wordsPerSection (pushOpBytes (now (run .entry)))
+        (storeIn state (now (bytes .entry)) (now (words .entry)))) ⌝ }
+    ensures bytes { λ _. ⌜ now (bytes .exit) ≡ callAfter wordsPerSection (pushOpBytes (now (run .entry)))
+        (storeIn state (now (bytes .entry)) (now (words .entry))) .bytes ⌝ }
+    ensures words { λ _. ⌜ now (words .exit) ≡ callAfter wordsPerSection (pushOpBytes (now (run .entry)))
+        (storeIn state (now (bytes .entry)) (now (words .entry))) .words ⌝ }
+{
+    building::push_op_bytes(state, bytes, words, run)
 }
 
 // Adds SWAP1 to SWAP16. Refusals: 1, 6, 4, 5.

@@ -3,7 +3,8 @@ use Prim.Native.Nat.{ℕ, _^_, _≤_, _<_}
 use native.Mathlib.Omega.{arith}
 use mathlib.Core.Path.{_≡_, refl, sym, ap, _∙_}
 use mathlib.Core.Bool.{Bool, true, false}
-use mathlib.Core.List.{List}
+use mathlib.Core.List.{List, [], _∷_}
+use lib.ListN.{length}
 use lib.Dec.{ltb}
 use borrow.Author.Tests.{eq-eqb, ne-eqb, lt-ltb, le-ltb, ltb-true, ltb-false}
 use Rattle.units.specs.Replies.{damaged}
@@ -15,11 +16,12 @@ use Rattle.records.specs.declared.damage.Soundness.the-variants.{Sound, Damaged
 use Rattle.records.specs.Store.{Store, storeOf, wordsPerSection}
 use Rattle.records.specs.Damage.{lastSoundness}
 use Rattle.records.specs.Sections.{Section}
-use Rattle.calls.specs.Calls.{BuiltReply, Push, hasBadDepth, hasBadWord, hasLargeMark, added, bytesPass, sectionPasses, roomReply, soundReply, addReply, pushReply, pushAfter}
+use Rattle.calls.specs.Calls.{BuiltReply, Push, hasBadDepth, hasBadWord, hasLargeMark, added, bytesPass, sectionPasses, roomReply, soundReply, addReply, pushReply, pushAfter, pushOpByte, pushOpBytes, unlessRefused, allReply, eachOpByte, callReply, callAfter}
+use Rattle.calls.proofs.OpBytesAnswers.{no-op-bytes}
 use Rattle.numbers.specs.Numbers.{numberIn, lowIn, countsIn, storeIn, stateNumber, builtNumber}
 use Rattle.numbers.specs.Packs.{BuiltPacks}
-use Rattle.numbers.proofs.Adds.{Pushes}
-use Rattle.numbers.proofs.Bounds.{push-packs}
+use Rattle.numbers.proofs.Adds.{Pushes, Runs}
+use Rattle.numbers.proofs.Bounds.{push-packs, some-packs}
 use Rattle.numbers.proofs.Unpacking.{number-back, low-back, state-back, stored-state}
 use Rattle.store.specs.Built.{builtOf}
 
@@ -65,6 +67,16 @@ plain-push w p st =
     (λ _. cond-case Plain (hasBadWord p) _ _ (λ _. (omega arith, omega arith, λ _. refl, refl))
     (λ _. cond-case Plain (hasLargeMark p) _ _ (λ _. (omega arith, omega arith, λ _. refl, refl)) (λ _. plain-add w (added p) st)))
 
+-- of calls in turn too
+plain-all : (w : ℕ) (ps : List Push) (st : Store) → Plain (allReply w ps st)
+unfolding allReply
+plain-all w [] st = tt
+plain-all w (p ∷ ps) st = go (pushReply w p st) (plain-push w p st) (plain-all w ps (pushAfter w p st))
+  where
+    go : (r : BuiltReply) → Plain r → Plain (allReply w ps (pushAfter w p st)) → Plain (unlessRefused r (allReply w ps (pushAfter w p st)))
+    go (accepted counts) one rest = rest
+    go (refused n i k) one rest = one
+
 -- ---- a reply and its number
 
 of-number : (r : BuiltReply) → Plain r → BuiltPacks r → builtOf (builtNumber r) ≡ r
@@ -86,18 +98,23 @@ of-number (refused n i k) h packs = go (ltb n damaged) refl
 pub push-back : (w : ℕ) (p : Push) (st : Store) → builtOf (builtNumber (pushReply w p st)) ≡ pushReply w p st
 push-back w p st = of-number (pushReply w p st) (plain-push w p st) (push-packs w p st)
 
+pub all-back : (w : ℕ) (p : Push) (ps : List Push) (st : Store) → builtOf (builtNumber (allReply w (p ∷ ps) st)) ≡ allReply w (p ∷ ps) st
+all-back w p ps st = of-number (allReply w (p ∷ ps) st) (plain-all w (p ∷ ps) st) (some-packs w p ps st)
+
 -- ---- the calls
 
-module _ (p : Push) (store : Assembler) (bytes words : List ℕ) (state : ℕ) (is : state ≡ stateNumber store) (fits : store .bytes < 2 ^ 32) where
-  same-store : storeIn state bytes words ≡ storeOf store bytes words
-  same-store = ap (λ (c : Assembler). storeOf c bytes words) (ap countsIn is ∙ state-back store fits)
+-- the store of a state, and of its counts
+same-store : (store : Assembler) (bytes words : List ℕ) (state : ℕ) → state ≡ stateNumber store → store .bytes < 2 ^ 32
+    → storeIn state bytes words ≡ storeOf store bytes words
+same-store store bytes words state is fits = ap (λ (c : Assembler). storeOf c bytes words) (ap countsIn is ∙ state-back store fits)
 
+module _ (p : Push) (store : Assembler) (bytes words : List ℕ) (state : ℕ) (is : state ≡ stateNumber store) (fits : store .bytes < 2 ^ 32) where
   -- the reply and both slices, from those by number
   pub by-number : {reply : BuiltReply} {answer : ℕ} {bytes′ words′ : List ℕ} → reply ≡ builtOf answer
       → Pushes wordsPerSection p (storeIn state bytes words) answer bytes′ words′
       → (reply ≡ pushReply wordsPerSection p (storeOf store bytes words))
       × ((bytes′ ≡ pushAfter wordsPerSection p (storeOf store bytes words) .bytes) × (words′ ≡ pushAfter wordsPerSection p (storeOf store bytes words) .words))
-  by-number e all = rw (sym same-store) (e ∙ ap builtOf (all .0) ∙ push-back wordsPerSection p (storeIn state bytes words), all .1)
+  by-number e all = rw (sym (same-store store bytes words state is fits)) (e ∙ ap builtOf (all .0) ∙ push-back wordsPerSection p (storeIn state bytes words), all .1)
 
   -- of a call that is lent no bytes to write
   pub words-by-number : {reply : BuiltReply} {answer : ℕ} {words′ : List ℕ} → reply ≡ builtOf answer
@@ -105,3 +122,26 @@ module _ (p : Push) (store : Assembler) (bytes words : List ℕ) (state : ℕ) (
       × (words′ ≡ pushAfter wordsPerSection p (storeIn state bytes words) .words)
       → (reply ≡ pushReply wordsPerSection p (storeOf store bytes words)) × (words′ ≡ pushAfter wordsPerSection p (storeOf store bytes words) .words)
   words-by-number e all = let both = by-number e (all .0, (refl, all .1)) in (both .0, both .1 .1)
+
+-- ---- a run of op bytes
+
+-- an empty one
+pub run-none : (run : List ℕ) (store : Assembler) (bytes words : List ℕ) → length run ≡ 0
+    → (accepted store ≡ callReply wordsPerSection (pushOpBytes run) (storeOf store bytes words))
+    × ((bytes ≡ callAfter wordsPerSection (pushOpBytes run) (storeOf store bytes words) .bytes) × (words ≡ callAfter wordsPerSection (pushOpBytes run) (storeOf store bytes words) .words))
+run-none [] store bytes words e =
+    let none = no-op-bytes wordsPerSection (storeOf store bytes words) in
+    (sym (none .0), (ap (λ (x : Store). x .bytes) (sym (none .1)), ap (λ (x : Store). x .words) (sym (none .1))))
+run-none (b ∷ run) store bytes words e = absurd (omega (arith, e))
+
+-- any other, from its number
+module _ (store : Assembler) (bytes words : List ℕ) (state : ℕ) (is : state ≡ stateNumber store) (fits : store .bytes < 2 ^ 32) where
+  pub run-by-number : (run : List ℕ) {reply : BuiltReply} {answer : ℕ} {bytes′ words′ : List ℕ} → (length run ≡ 0 → ⊥) → reply ≡ builtOf answer
+      → Runs wordsPerSection run (storeIn state bytes words) answer bytes′ words′
+      → (reply ≡ callReply wordsPerSection (pushOpBytes run) (storeOf store bytes words))
+      × ((bytes′ ≡ callAfter wordsPerSection (pushOpBytes run) (storeOf store bytes words) .bytes)
+      × (words′ ≡ callAfter wordsPerSection (pushOpBytes run) (storeOf store bytes words) .words))
+  run-by-number [] some e all = absurd (some refl)
+  run-by-number (b ∷ run) some e all =
+      rw (sym (same-store store bytes words state is fits))
+      (e ∙ ap builtOf (all .0) ∙ all-back wordsPerSection (pushOpByte b) (eachOpByte run) (storeIn state bytes words), all .1)

@@ -12,7 +12,7 @@ use units::Refusal;
 ghost use mathlib.Core.Path.{_≡_};
 ghost use Rattle.records.specs.Store.{storeOf, wordsPerSection};
 ghost use Rattle.calls.specs.Calls.{pushMark, pushOpByte, pushSwap, pushDup, pushExchange, pushData, pushReference, pushReply, pushAfter};
-ghost use Rattle.calls.specs.Calls.{pushMinimalU256, pushMinimalU64, pushMinimalU32};
+ghost use Rattle.calls.specs.Calls.{pushMinimalU256, pushMinimalU64, pushMinimalU32, pushOpBytes, callReply, callAfter};
 ghost use Rattle.store.specs.Built.{builtReply, builtOf};
 
 // What a building call answers: the store's counts after it, or a refusal with nothing changed.
@@ -51,6 +51,24 @@ pub fn push_op_byte(store: Assembler, bytes: &mut [u8], words: &mut [u32], byte:
         (storeOf store (now (bytes .entry)) (now (words .entry))) .words ⌝ }
 {
     built_of(building::push_op_byte(state_of(store), bytes, words, byte))
+}
+
+// Adds a run of op bytes, all or nothing: as `push_op_byte` of each in turn, and the first refusal is the run's. Refusals: 6 damaged;
+// 4 bytes full, no room for one byte; 5 sections full; 4 bytes full, no room for all. An empty run is accepted with the counts as they
+// are, on any store.
+pub fn push_op_bytes(store: Assembler, bytes: &mut [u8], words: &mut [u32], run: &[u8]) -> Built
+    ensures reply { λ r. ⌜ builtReply r ≡ callReply wordsPerSection (pushOpBytes (now (run .entry)))
+        (storeOf store (now (bytes .entry)) (now (words .entry))) ⌝ }
+    ensures bytes { λ _. ⌜ now (bytes .exit) ≡ callAfter wordsPerSection (pushOpBytes (now (run .entry)))
+        (storeOf store (now (bytes .entry)) (now (words .entry))) .bytes ⌝ }
+    ensures words { λ _. ⌜ now (words .exit) ≡ callAfter wordsPerSection (pushOpBytes (now (run .entry)))
+        (storeOf store (now (bytes .entry)) (now (words .entry))) .words ⌝ }
+{
+    // Counts that are no state's would not come back out of their number.
+    if run.len() == 0 {
+        return Built::Stored(store);
+    }
+    built_of(building::push_op_bytes(state_of(store), bytes, words, run))
 }
 
 // Adds SWAP1 to SWAP16. Refusals: 1 bad depth (0 or above 16), 6 damaged, 4 bytes full, 5 sections full.
