@@ -47,7 +47,7 @@ struct Pair {
 
 impl Pair {
     fn new(calls: Vec<Call>, text: usize) -> Self {
-        let bytes = calls.iter().map(|c| if let Call::Data(n) = c { *n } else { 33 }).sum();
+        let bytes = calls.iter().map(|c| if let Call::Data(n) | Call::Run(n) = c { *n } else { 33 }).sum();
         let marks = 1 + calls.iter().map(|c| if let Call::Mark(m) = c { *m as usize } else { 0 }).max().unwrap_or(0);
         let mut pair = Pair {
             ours: Ours::new(bytes, calls.len(), marks, text),
@@ -242,6 +242,8 @@ fn main() {
     let mut r = Random(7);
     building("building, mix", calls::contract(6000, 3));
     building("`push_op_byte`", vec![Call::Op(0x01); many]);
+    building("`push_op_bytes` (32)", vec![Call::Run(32); many]);
+    building("mark+run 8, `push_op_bytes` (8)", (0..many as u32).flat_map(|m| [Call::Mark(m), Call::Run(8)]).collect());
     building("`push_swap`", vec![Call::Swap(3); many]);
     building("`push_dup`", vec![Call::Dup(3); many]);
     building("`push_exchange`", vec![Call::Exchange(3, 5); many]);

@@ -5,6 +5,8 @@
 pub enum Call {
     Mark(u32),
     Op(u8),
+    /// So many op bytes in one call; the original has none for it, and is given them one by one.
+    Run(usize),
     Swap(u8),
     Dup(u8),
     Exchange(u8, u8),

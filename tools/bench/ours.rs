@@ -5,6 +5,7 @@ use crate::calls::{Call, DATA};
 unsafe extern "C" {
     fn sadrokki_push_mark(s: u64, b: *const u8, bn: usize, w: *mut u32, wn: usize, mark: u32) -> u64;
     fn sadrokki_push_op_byte(s: u64, b: *mut u8, bn: usize, w: *mut u32, wn: usize, byte: u8) -> u64;
+    fn sadrokki_push_op_bytes(s: u64, b: *mut u8, bn: usize, w: *mut u32, wn: usize, d: *const u8, dn: usize) -> u64;
     fn sadrokki_push_swap(s: u64, b: *mut u8, bn: usize, w: *mut u32, wn: usize, depth: u8) -> u64;
     fn sadrokki_push_dup(s: u64, b: *mut u8, bn: usize, w: *mut u32, wn: usize, depth: u8) -> u64;
     fn sadrokki_push_exchange(s: u64, b: *mut u8, bn: usize, w: *mut u32, wn: usize, n: u8, m: u8) -> u64;
@@ -54,6 +55,7 @@ impl Ours {
             match *call {
                 Call::Mark(m) => sadrokki_push_mark(s, b, bn, w, wn, m),
                 Call::Op(o) => sadrokki_push_op_byte(s, b, bn, w, wn, o),
+                Call::Run(n) => sadrokki_push_op_bytes(s, b, bn, w, wn, DATA.as_ptr(), n),
                 Call::Swap(d) => sadrokki_push_swap(s, b, bn, w, wn, d),
                 Call::Dup(d) => sadrokki_push_dup(s, b, bn, w, wn, d),
                 Call::Exchange(n, m) => sadrokki_push_exchange(s, b, bn, w, wn, n, m),

@@ -44,6 +44,11 @@ impl Theirs {
         match *call {
             Call::Mark(m) => asm.push_mark(MarkId::new(m)),
             Call::Op(o) => asm.push_op_byte(o),
+            Call::Run(n) => {
+                for &byte in &DATA[..n] {
+                    asm.push_op_byte(byte);
+                }
+            }
             Call::Swap(d) => asm.push_swap(d),
             Call::Dup(d) => asm.push_dup(d),
             Call::Exchange(n, m) => asm.push_exchange(n, m),

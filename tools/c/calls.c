@@ -15,6 +15,55 @@ static void same(int line, uint64_t a, uint64_t b) {
     exit(1);
 }
 
+static void runs(void) {
+    uint8_t bytes[64], bytes_then[64];
+    uint32_t words[3 * 16], words_then[3 * 16];
+    const uint8_t ops[] = {0x60, 0x07, 0x5b, 0x00};
+    uint64_t state = 0;
+
+    /* After a mark, four op bytes and then two, singly and as two runs: the same bytes and words. */
+    memset(bytes, 0xee, sizeof bytes);
+    memset(words, 0xee, sizeof words);
+    state = sadrokki_push_mark(STORE, 0);
+    for (int i = 0; i < 6; i++) state = sadrokki_push_op_byte(STORE, ops[i % 4]);
+    SAME(state, ANSWER(0, 2, 6));
+    memcpy(bytes_then, bytes, sizeof bytes);
+    memcpy(words_then, words, sizeof words);
+    memset(bytes, 0xee, sizeof bytes);
+    memset(words, 0xee, sizeof words);
+    state = sadrokki_push_mark(0, bytes, 64, words, 48, 0);
+    state = sadrokki_push_op_bytes(STORE, ops, 4);
+    SAME(state, ANSWER(0, 2, 4));
+    state = sadrokki_push_op_bytes(STORE, ops, 2);
+    SAME(state, ANSWER(0, 2, 6));
+    SAME(memcmp(bytes, "\x60\x07\x5b\x00\x60\x07\xee", 7), 0);
+    SAME(memcmp(bytes, bytes_then, sizeof bytes), 0);
+    SAME(memcmp(words, words_then, sizeof words), 0);
+
+    /* An empty run answers the state: the empty one, one with bad counts, a refusal's number. One byte is refused there. */
+    SAME(sadrokki_push_op_bytes(STORE, ops, 0), state);
+    SAME(sadrokki_push_op_bytes(0, bytes, 0, words, 0, ops, 0), 0);
+    SAME(sadrokki_push_op_bytes(65, bytes, 64, words, 48, ops, 0), 65);
+    SAME(sadrokki_push_op_bytes(ANSWER(4, 0, 0), bytes, 64, words, 48, ops, 0), ANSWER(4, 0, 0));
+    SAME(sadrokki_push_op_bytes(ANSWER(255, 0, 0), bytes, 64, words, 48, ops, 0), ANSWER(255, 0, 0));
+    SAME(sadrokki_push_op_bytes(65, bytes, 64, words, 48, ops, 1), ANSWER(6, 0, 0));
+    SAME(sadrokki_push_op_bytes(ANSWER(4, 0, 0), bytes, 64, words, 48, ops, 1), ANSWER(6, 0, 0));
+
+    /* Too long by one and by all: 4. No section left after the mark: 5 if one byte fits, else 4. A damaged last section: 6 at
+     * its index. None of them writes; then a run that fills the bytes, and needs no section. */
+    SAME(sadrokki_push_op_bytes(state, bytes, 9, words, 48, ops, 4), ANSWER(4, 0, 0));
+    SAME(sadrokki_push_op_bytes(state, bytes, 6, words, 48, ops, 4), ANSWER(4, 0, 0));
+    SAME(sadrokki_push_op_bytes(ANSWER(0, 1, 0), bytes, 1, words, 5, ops, 4), ANSWER(5, 0, 0));
+    SAME(sadrokki_push_op_bytes(ANSWER(0, 1, 0), bytes, 1, words, 6, ops, 4), ANSWER(4, 0, 0));
+    SAME(sadrokki_push_op_bytes(ANSWER(0, 1, 0), bytes, 0, words, 5, ops, 4), ANSWER(4, 0, 0));
+    SAME(sadrokki_push_op_bytes(ANSWER(0, 2, 5), bytes, 64, words, 48, ops, 4), ANSWER(6, 0, 1));
+    SAME(memcmp(bytes, bytes_then, sizeof bytes), 0);
+    SAME(memcmp(words, words_then, sizeof words), 0);
+    SAME(sadrokki_push_op_bytes(state, bytes, 10, words, 6, ops, 4), ANSWER(0, 2, 10));
+    SAME(memcmp(bytes, "\x60\x07\x5b\x00\x60\x07\x60\x07\x5b\x00\xee", 11), 0);
+    SAME(words[5], 10);
+}
+
 int main(void) {
     uint8_t bytes[64], code[64], text[256], name[14];
     uint32_t words[3 * 16], table[2];
@@ -61,6 +110,8 @@ int main(void) {
     state = sadrokki_push_minimal_u32(STORE, 7);
     SAME(state, ANSWER(0, 1, 16));
     SAME(memcmp(bytes, "\x92\x82\x90\x91\x90\x61\x12\x34\x64\x01\x00\x00\x00\x00\x60\x07", 16), 0);
+
+    runs();
 
     /* Refusals, and arguments that name nothing. */
     SAME(sadrokki_push_swap(STORE, 0), ANSWER(1, 0, 0));

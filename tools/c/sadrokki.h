@@ -10,9 +10,10 @@
  *   number 1 to 14, a refusal of document 01: mid = passes, low = section.
  *   number 255: an argument names nothing; nothing changed.
  * A building call's refusal or 255, given on as a state, has a section count above the limit. sadrokki_clear takes it, as any
- * state, and answers the empty one; every other call refuses again: for its own arguments (1, 2, 3, 255), else with 6 at
- * section 0. So where each building call was given the answer before it, without a clear, number 0 in the last answer says that
- * all were accepted; another number says that one wasn't, and neither which nor why. Other calls' answers are no states.
+ * state, and answers the empty one; an empty run of op bytes answers it as it was; every other call refuses again: for its own
+ * arguments (1, 2, 3, 255), else with 6 at section 0. So where the first building call was given a state with number 0 and each
+ * other one the answer before it, without a clear, number 0 in the last answer says that all were accepted; another number says
+ * that one wasn't, and neither which nor why. Other calls' answers are no states.
  * Form of a reference: set size (0 unsized, else 1 to 4) plus 8 if pushed. */
 #ifndef SADROKKI_H
 #define SADROKKI_H
@@ -34,6 +35,11 @@ uint64_t sadrokki_clear(uint64_t state);
 
 uint64_t sadrokki_push_mark(uint64_t state, const uint8_t *bytes, size_t bytes_len, uint32_t *words, size_t words_len, uint32_t mark);
 uint64_t sadrokki_push_op_byte(uint64_t state, uint8_t *bytes, size_t bytes_len, uint32_t *words, size_t words_len, uint8_t byte);
+/* A run of op bytes, all or nothing: as sadrokki_push_op_byte of each in turn, but if some byte would be refused, nothing is
+ * stored and the first such byte's refusal is the answer. It is judged byte by byte: where no section is left for the first
+ * byte, a run too long for the bytes is 5, and 4 only if not even one byte fits. An empty run tests nothing, adds no section
+ * and is never refused: its answer is the state it was given, whatever that is. A state that is itself a refusal comes back. */
+uint64_t sadrokki_push_op_bytes(uint64_t state, uint8_t *bytes, size_t bytes_len, uint32_t *words, size_t words_len, const uint8_t *ops, size_t ops_len);
 uint64_t sadrokki_push_swap(uint64_t state, uint8_t *bytes, size_t bytes_len, uint32_t *words, size_t words_len, uint8_t depth);
 uint64_t sadrokki_push_dup(uint64_t state, uint8_t *bytes, size_t bytes_len, uint32_t *words, size_t words_len, uint8_t depth);
 uint64_t sadrokki_push_exchange(uint64_t state, uint8_t *bytes, size_t bytes_len, uint32_t *words, size_t words_len, uint8_t n, uint8_t m);

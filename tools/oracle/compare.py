@@ -35,8 +35,8 @@ class Differs(Exception):
 
 def ends(calls: lists.Calls, table: int, position: int) -> list[Step]:
     """The steps after a list: its bytes and sections, code, table and listing, each as far as it may reach."""
-    count = sum({3: b - a, 7: 3, 8: 33, 9: 9, 10: 5}.get(kind, 1) for kind, a, b in calls)
-    text = sum({3: 2 * (b - a) + 30, 7: 30, 8: 90, 9: 40, 10: 30}.get(kind, 40) for kind, a, b in calls)
+    count = sum({3: b - a, 7: 3, 8: 33, 9: 9, 10: 5, 12: b - a}.get(kind, 1) for kind, a, b in calls)
+    text = sum({3: 2 * (b - a) + 30, 7: 30, 8: 90, 9: 40, 10: 30, 12: 20 * (b - a) + 20}.get(kind, 40) for kind, a, b in calls)
     top = min(table, max((a + 1 for kind, a, _ in calls if kind == 1), default=0))
     return [(24, 0, count), (25, 0, 3 * len(calls)), (20, position, 0), (26, 0, top), (27, 0, position + count + 4 * len(calls)), (21, 0, 0), (28, 0, text)]
 
@@ -63,7 +63,7 @@ def marks_apart(calls: lists.Calls, table: int) -> int:
             placed.setdefault(a, set()).add(before)
             continue
         named |= {a} if kind == 4 else {a, b} if kind >= 32 else set()
-        before += not (kind == 3 and a == b)
+        before += not (kind in (3, 12) and a == b)
     if any(m >= table for m in named | placed.keys()):
         return 7
     return 8 if named - placed.keys() else 9 if any(len(at) > 1 for at in placed.values()) else 0

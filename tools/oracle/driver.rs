@@ -149,6 +149,8 @@ fn step(run: &mut Run, pool: &[u8], hint: Option<usize>, kind: u8, a: u32, b: u3
         9 => building(asm, |asm| asm.push_minimal_u64((a as u64) << 32 | b as u64)),
         10 => building(asm, |asm| asm.push_minimal_u32(a)),
         11 => building(asm, |asm| asm.clear()),
+        // The original has no call for a run.
+        12 => building(asm, |asm| pool[from..to].iter().for_each(|&byte| asm.push_op_byte(byte))),
         20 => assemble(run, from, hint),
         21 => list(run),
         24 => {

@@ -2,15 +2,15 @@
 there; every list meets demand 2's premises, so that replay must answer the same."""
 from collections.abc import Iterator
 import lists
-from lists import FORMS, NUMBERS, data, delta, direct, dup, exchange, mark, op, swap, u256, u32, u64
+from lists import FORMS, NUMBERS, RISING, data, delta, direct, dup, exchange, mark, op, run, swap, u256, u32, u64
 from scripts import Step, model
 
-SEED, RANDOM = "fixed", 220  # random lists tried
+SEED, RANDOM, WITH_RUNS = "fixed", 220, 60  # random lists tried
 LONGEST = 1200  # bytes of code printed whole
 
 
 def by_hand() -> Iterator[lists.Calls]:
-    """Every op byte, depth, width of a minimal push, and form at each width of its value."""
+    """Every op byte, depth, width of a minimal push, and form at each width of its value; runs of op bytes."""
     for first in range(0, 256, 32):
         yield [c for byte in range(first, first + 32) for c in (op(byte), mark(byte))]
     yield [swap(n) for n in range(1, 17)] + [dup(n) for n in range(16)]
@@ -26,19 +26,25 @@ def by_hand() -> Iterator[lists.Calls]:
     for before in (252, 253, 254):  # the value counts the reference itself
         for form in FORMS:
             yield [direct(0, form), *data(before), mark(0)]
+    yield [run(256, RISING)]
+    yield [run(0), mark(0), run(0), mark(0), run(2, RISING + 0x5F), mark(1), run(0), mark(1), run(1, RISING + 0x56), direct(1, 8)]
+    for other in (op(0x60), *data(1), *data(0), u32(256), direct(0, 8), delta(0, 0, 0)):
+        yield [mark(0), run(0), other, run(3, RISING + 0x5F), other, run(0), other, run(40), run(60), other]
 
 
 def steps(base: int, lengths: tuple[int, ...]) -> Iterator[Step]:
     """The steps, for a pool that has POOL at `base`, and for slices of these lengths."""
     store = model.Model(lengths, lists.POOL)
-    for calls in (*by_hand(), *(lists.one(f"{SEED} {i}") for i in range(RANDOM))):
+    without = (lists.one(f"{SEED} {i}") for i in range(RANDOM))
+    runs = (lists.one(f"{SEED} runs {i}", lists.RUNS) for i in range(WITH_RUNS))
+    for calls in (*by_hand(), *without, *runs):
         store.anew()
         built = all(store.step(*call).startswith("stored ") for call in calls)
         word, number, *_ = store.step(20, 0, 0).split()
         if not built or not (word == "length" or number == "10"):
             continue
         yield 0, 0, 0
-        yield from ((kind, a + base, b + base) if kind in (3, 8) else (kind, a, b) for kind, a, b in calls)
+        yield from ((kind, a + base, b + base) if kind in (3, 8, 12) else (kind, a, b) for kind, a, b in calls)
         yield 20, 0, 0
         if word == "length":
             end = int(number)

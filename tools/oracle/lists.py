@@ -1,7 +1,7 @@
 """Lists of building calls: short ones exhaustively, random ones from a seed. A call is a step of docs/REPLAY.md, (kind, a, b);
-data and words are parts of POOL."""
+data, words and runs of op bytes are parts of POOL."""
 import itertools, random
-from collections.abc import Iterator
+from collections.abc import Callable, Iterator
 from scripts import gen, model
 
 Call = tuple[int, int, int]
@@ -13,7 +13,8 @@ CHUNK = 8192  # longer data are pushed in parts
 # Words of 32 bytes: 0, then of every byte length the least number, a middle one and the largest.
 NUMBERS = [0] + [v for n in range(32) for v in (256**n, 0x80 * 256**n + n, 256 ** (n + 1) - 1)]
 WORDS = b"".join(v.to_bytes(32, "big") for v in NUMBERS)
-POOL = WORDS + random.Random(0).randbytes(CHUNK + 64)
+RISING = CHUNK + 64  # where, after the words, the bytes 00 to ff stand in their order
+POOL = WORDS + random.Random(0).randbytes(RISING) + bytes(range(256))
 
 mark = lambda m: (1, m, 0)
 op = lambda byte: (2, byte, 0)
@@ -25,6 +26,7 @@ u256 = lambda i: (8, 32 * i, 32 * i + 32)
 u64 = lambda v: (9, v >> 32, v & TOP)
 u32 = lambda v: (10, v, 0)
 clear = (11, 0, 0)
+run = lambda n, skip=0: (12, len(WORDS) + skip, len(WORDS) + skip + n)
 delta = lambda start, end, form: (32 + form, start, end)
 
 
@@ -38,8 +40,9 @@ def data(n: int, skip: int = 0) -> Calls:
 
 ALL = [mark(0), mark(1), op(0x5B), op(0x60), *data(2), *data(0), swap(1), dup(0), exchange(1, 2), exchange(0, 1), u256(4), u64(0), u32(256), clear]
 ALL += [direct(0, form) for form in FORMS] + [delta(0, 1, form) for form in FORMS] + [direct(1, 8), delta(1, 0, 8), delta(0, 0, 0)]
+ALL += [run(2, RISING + 0x5F), run(0)]
 ALL += [swap(0), dup(16), exchange(1, 1), exchange(1, 17), mark(MARK + 1), direct(MARK + 1, 8), delta(0, MARK + 1, 8)]
-SOME = [mark(0), mark(1), op(0x5B), *data(2), *data(0), direct(0, 8), direct(1, 0), direct(1, 9), delta(0, 1, 8), delta(1, 0, 0), clear]
+SOME = [mark(0), mark(1), op(0x5B), *data(2), *data(0), direct(0, 8), direct(1, 0), direct(1, 9), delta(0, 1, 8), delta(1, 0, 0), clear, run(2, RISING + 0x5F), run(0)]
 FEW = [mark(0), mark(1), op(0x5B), *data(0), direct(0, 8), direct(1, 0), delta(0, 1, 8)]
 
 
@@ -50,9 +53,10 @@ def unplaced(calls: Calls) -> list[int]:
 
 
 def short() -> Iterator[Calls]:
-    """Every op byte alone; every list of up to 3 calls of ALL, of 4 of SOME, of 5 of FEW; where a mark isn't placed, also with it
-    placed at the end."""
+    """Every op byte alone, also as a run; every list of up to 3 calls of ALL, of 4 of SOME, of 5 of FEW; where a mark isn't placed,
+    also with it placed at the end."""
     yield from ([op(byte)] for byte in range(256))
+    yield from ([run(1, RISING + byte)] for byte in range(256))
     for letters, lengths in ((ALL, range(4)), (SOME, (4,)), (FEW, (5,))):
         for calls in itertools.chain(*(itertools.product(letters, repeat=n) for n in lengths)):
             yield list(calls)
@@ -65,6 +69,10 @@ def short() -> Iterator[Calls]:
 OTHERS = (lambda r: op(r.randrange(256)), lambda r: op(0x60 + r.randrange(32)), lambda r: swap(r.randint(1, 16)), lambda r: dup(r.randrange(16)),
           lambda r: exchange(*r.sample(range(17), 2)), lambda r: u256(r.randrange(len(NUMBERS))),
           lambda r: u64(number(r, 8)), lambda r: u32(number(r, 4)))  # fmt: skip
+# They, and, half of the choices, runs: in rising order, of any bytes, and none or one.
+RUNS = OTHERS + 3 * (lambda r: run(r.randint(0, 60), RISING + r.randrange(196)), lambda r: run(r.randint(0, 60), r.randrange(CHUNK)),
+                     lambda r: run(r.randrange(2), r.randrange(CHUNK)))  # fmt: skip
+Others = tuple[Callable[[random.Random], Call], ...]
 
 
 def number(r: random.Random, size: int) -> int:
@@ -86,7 +94,7 @@ def least(call: Call) -> int:
     if kind in (4, *range(32, 45)):
         f = b if kind == 4 else kind - 32
         return f % 8 + (f >= 8) if f % 8 else 1
-    return {1: 0, 3: b - a, 7: 3 if a and b else 1, 8: 17, 9: 5, 10: 3, 11: 0}.get(kind, 1)
+    return {1: 0, 3: b - a, 7: 3 if a and b else 1, 8: 17, 9: 5, 10: 3, 11: 0, 12: b - a}.get(kind, 1)
 
 
 def brought_near(r: random.Random, calls: Calls, near: int, slack: int) -> Calls:
@@ -105,12 +113,12 @@ def brought_near(r: random.Random, calls: Calls, near: int, slack: int) -> Calls
     return calls
 
 
-def layout(r: random.Random, near: int = 0) -> Calls:
+def layout(r: random.Random, near: int = 0, others: Others = OTHERS) -> Calls:
     """Marks placed once, references of every form between them; with `near`, an offset or a delta about that number."""
     k = r.choice((1, 2, 3, 3, 5))
     marks = list(range(k)) if r.random() < 0.95 else r.sample((0, 1, 126, 127, 128, 129, 255, 256, 511, 512, 1023, 1099), k)
     narrow = r.choice((0, 0, 0.02, 0.3)) if not near else 0
-    calls = [mark(m) for m in marks] + [r.choice(OTHERS)(r) for _ in range(r.choice((0, 1, 3)))]
+    calls = [mark(m) for m in marks] + [r.choice(others)(r) for _ in range(r.choice((0, 1, 3)))]
     calls += [c for _ in range(r.choice((0, 1, 2))) for c in data(r.choice((0, 1, 2, 31)), r.randrange(64))]
     many = r.choice((1, 2, 4, 8, 15))
     refs = [("direct", r.choice(marks)) for _ in range(many)] + [("delta", *r.choices(marks, k=2)) for _ in range(r.randint(0, many))]
@@ -150,9 +158,9 @@ def overtaken(r: random.Random) -> Calls:
     return calls + [delta(r.choice((0, 1)), 2, form(r, 0.1)) for _ in range(r.randrange(3))]
 
 
-def again(r: random.Random) -> Calls:
+def again(r: random.Random, others: Others) -> Calls:
     """Marks placed more than once, mostly with nothing between."""
-    calls = layout(r, r.choice((0, 256)))
+    calls = layout(r, r.choice((0, 256)), others)
     for _ in range(r.choice((1, 1, 2, 3))):
         places = [i for i, c in enumerate(calls) if c[0] == 1]
         i = r.choice(places)
@@ -161,7 +169,7 @@ def again(r: random.Random) -> Calls:
     return calls
 
 
-def mixed(r: random.Random) -> Calls:
+def mixed(r: random.Random, others: Others) -> Calls:
     """Any calls in any order."""
     calls = []
     for _ in range(r.randint(0, 30)):
@@ -174,7 +182,7 @@ def mixed(r: random.Random) -> Calls:
             m = r.randrange(4)
             calls.append(r.choice((direct(m, r.choice(FORMS)), delta(m // 2, m, r.choice(FORMS)))))
         else:
-            calls.append(r.choice(OTHERS)(r))
+            calls.append(r.choice(others)(r))
     if r.random() < 0.3:
         calls.insert(r.randint(0, len(calls)), clear)
     return calls
@@ -193,9 +201,9 @@ def restless(r: random.Random) -> Calls:
     return calls
 
 
-def bad(r: random.Random) -> Calls:
+def bad(r: random.Random, others: Others) -> Calls:
     """A call that we refuse, somewhere in a list."""
-    calls = r.choice((mixed, layout))(r)
+    calls = r.choice((mixed, layout))(r, others=others)
     high = r.randint(17, 255)
     wrong = [swap(0), swap(high), dup(high - 1), exchange(r.randint(0, 16), high), exchange(high, r.randint(0, 16))]
     wrong += [exchange(*[r.choice((0, 1, 16, 17, 255))] * 2), direct(MARK + 1, 8), delta(TOP, 0, 0), delta(0, MARK + 1, 9), mark(MARK + 1), mark(TOP)]
@@ -203,13 +211,15 @@ def bad(r: random.Random) -> Calls:
     return calls
 
 
-def one(seed: str) -> Calls:
-    """The list of a seed."""
+def one(seed: str, others: Others = OTHERS) -> Calls:
+    """The list of a seed, with these calls beside marks, data and references."""
     r = random.Random(seed)
-    ways = (layout, 16), (lambda r: layout(r, 256), 40), (lambda r: layout(r, 65536), 8), (lambda r: chain(r, 256), 6), (lambda r: chain(r, 65536), 1)
-    ways += (overtaken, 6), (again, 8), (mixed, 8), (restless, 1), (bad, 6)
-    return r.choices([way for way, _ in ways], [weight for _, weight in ways])[0](r)
+    ways = (lambda: layout(r, 0, others), 16), (lambda: layout(r, 256, others), 40), (lambda: layout(r, 65536, others), 8)
+    ways += (lambda: chain(r, 256), 6), (lambda: chain(r, 65536), 1), (lambda: overtaken(r), 6), (lambda: again(r, others), 8)
+    ways += (lambda: mixed(r, others), 8), (lambda: restless(r), 1), (lambda: bad(r, others), 6)
+    return r.choices([way for way, _ in ways], [weight for _, weight in ways])[0]()
 
 
 def at_random(seed: int, count: int) -> Iterator[Calls]:
-    return (one(f"{seed} {i}") for i in range(count))
+    """Every second one with runs."""
+    return (one(f"{seed} {i}", RUNS if i % 2 else OTHERS) for i in range(count))

@@ -88,7 +88,7 @@ class Script:
 
     def build(self):
         r = self.r
-        k = r.choice([1, 2, 2, 3, 3, 4, 5, 6, 7, 8, 9, 10, 32, 32])
+        k = r.choice([1, 2, 2, 3, 3, 4, 5, 6, 7, 8, 9, 10, 12, 12, 32, 32])
         depth = lambda: r.choice([0, 1, 2, 3, 15, 16, 17, 255, r.randint(0, 20)])
         if k == 1:
             self.add(1, self.mark(), self.number())
@@ -106,8 +106,29 @@ class Script:
             self.add(8, *self.word())
         elif k in (9, 10):
             self.add(k, r.choice([0, self.number()]), self.number())
+        elif k == 12:
+            self.add(12, *self.part()) if r.random() < 0.3 else self.run(r.choice([0, 1, r.randint(1, 60), r.randint(1, 60), self.near(self.nb)]))
         else:
             self.add(32 + (r.choice(FORMS) if r.random() < 0.9 else r.randint(5, 20)), self.mark(), self.mark())
+
+    def run(self, n):
+        """A run of n op bytes."""
+        r = self.r
+        self.pool += r.randbytes(max(0, n - len(self.pool)))
+        a = r.randint(0, len(self.pool) - n)
+        self.add(12, a, a + n)
+
+    def runs(self):
+        """A store made by hand, full or not, damaged or not, and runs of op bytes about as long as what is left."""
+        r = self.r
+        b, s = self.counts()
+        self.add(18, b, s)
+        if 1 <= s <= self.nw // 3 + 1:
+            self.record(s - 1, b)
+        left = max(0, self.nb - b)
+        for _ in range(r.randint(1, 4)):
+            self.run(self.near(0, left, left, r.randint(1, 60)))
+        self.show()
 
     def record(self, i, b):
         """Words 3i to 3i + 2 set by hand: often good, sometimes with one thing wrong."""
@@ -212,8 +233,10 @@ class Script:
             if x < 0.25:
                 left = r.choice([250, 256, 65530]) if self.nb > 65536 else r.choice([1, 2, 120, 245, 250, 256])
                 parts.append(("data", max(0, left + r.choice([-6, -5, -4, -3, -2, -1, 0, 0, 0, 1, 2, 3]))))
-            elif x < 0.4:
+            elif x < 0.35:
                 parts.append(("op", r.choice([0x5B, 0x5B, r.randint(0, 255)])))
+            elif x < 0.4:
+                parts.append(("run", r.randint(0, 60)))
             elif x < 0.7:
                 parts.append(("direct", r.randint(0, k - 1)))
             else:
@@ -221,7 +244,7 @@ class Script:
         r.shuffle(parts)
         if r.random() < 0.6:  # a mark's offset near the boundary of two widths
             i = r.randint(0, len(parts))
-            least = sum(of[0] if what == "data" else what != "mark" for what, *of in parts[:i])
+            least = sum(of[0] if what in ("data", "run") else what != "mark" for what, *of in parts[:i])
             parts.insert(r.randint(0, i), ("data", max(0, (65536 if self.nb > 65536 else 256) - least - r.randint(0, 12))))
         at = {of[0]: i for i, (what, *of) in enumerate(parts) if what == "mark"}
         form = lambda: r.choice([0, 8, 8, 2, 3, 4, 10, 11, 12, *([1, 9] if r.random() < 0.2 + loose else [])])
@@ -232,6 +255,8 @@ class Script:
                 self.chunk(of[0])
             elif what == "op":
                 self.add(2, of[0])
+            elif what == "run":
+                self.run(of[0])
             elif what == "direct":
                 self.add(4, of[0] if r.random() < 0.99 else r.randint(0, 12), form())
             else:
@@ -285,7 +310,7 @@ class Script:
 
     def odd(self):
         r = self.r
-        self.add(r.choice([r.randint(12, 15), 19, 20, 21, 22, 23, 26, 27, 28, 29, 30, 31, 37, 38, 39, 45, 64, 255, r.randint(0, 255)]), self.number(), self.number())
+        self.add(r.choice([r.randint(13, 15), 19, 20, 21, 22, 23, 26, 27, 28, 29, 30, 31, 37, 38, 39, 45, 64, 255, r.randint(0, 255)]), self.number(), self.number())
 
     def fill_up(self):
         """To the very end of a slice, or one short of it."""
@@ -296,14 +321,16 @@ class Script:
         elif self.nw <= 400:
             for _ in range(self.nw // 3 + r.choice([-1, 0, 1])):
                 self.add(1, r.randint(0, 5))
+        if r.random() < 0.5:
+            self.run(self.near(0, 2))
 
     def body(self):
         r = self.r
-        mixes = [[8, 0, 1, 0, 1, 0, 1, 0, 0, 0], [6, 3, 2, 1, 2, 1, 2, 0, 0, 0], [3, 5, 2, 1, 2, 1, 2, 0, 0, 0], [8, 1, 1, 1, 1, 1, 1, 0, 0, 0], [1, 1, 1, 0, 1, 1, 1, 5, 0, 0]]
-        ways = [1, 1, 1, 0, 1, 1, 1, 1, 12, r.choice([0, 0, 1])] if self.coding else r.choice(mixes)
-        many = r.choice([1, 3, 10]) if sum(ways[7:]) else r.choice([3, 20, 60, 150])
+        mixes = [[8, 0, 1, 0, 1, 0, 1, 0, 0, 0, 0], [6, 3, 2, 1, 2, 1, 2, 1, 0, 0, 0], [3, 5, 2, 1, 2, 1, 2, 3, 0, 0, 0], [8, 1, 1, 1, 1, 1, 1, 1, 0, 0, 0], [1, 1, 1, 0, 1, 1, 1, 1, 5, 0, 0]]
+        ways = [1, 1, 1, 0, 1, 1, 1, 1, 1, 12, r.choice([0, 0, 1])] if self.coding else r.choice(mixes)
+        many = r.choice([1, 3, 10]) if sum(ways[8:]) else r.choice([3, 20, 60, 150])
         for _ in range(many):
-            way = r.choices([self.build, self.damage, self.show, self.odd, self.listing, self.landing, self.assembly, self.good_store, self.code, self.restless], ways)[0]
+            way = r.choices([self.build, self.damage, self.show, self.odd, self.listing, self.landing, self.assembly, self.runs, self.good_store, self.code, self.restless], ways)[0]
             way()
             x = r.random()
             if x < 0.02:
@@ -396,6 +423,48 @@ def edges():
         steps = b"".join(struct.pack(">BII", kind, a, b) for a in (0, 1, 3, 4, 255, 256, TOP) for b in (0, 1, 3, 4, 255, 256, TOP))
         for lengths in ((3, 3, 3, 3, 3), (0, 0, 0, 0, 0), (256, 300, 3, 3, 3)):
             yield f"kind {kind} with slices {lengths}", whole(lengths, 3, b"abc" + steps + struct.pack(">BII", 24, 0, lengths[0]) + struct.pack(">BII", 25, 0, lengths[1]))
+
+
+def run_edges():
+    """Runs of op bytes at their boundaries: (what, script)."""
+    record = lambda i, *words: [(17, 3 * i + j, w) for j, w in enumerate(words)]
+    mark, op, data, direct, delta = (1, 7, 0), (2, 0xEE, 0), (3, 0, 1), (4, 7, 8), (40, 7, 8)
+    some = lambda n: bytes((i * 7 + i // 256 + 0x5B) % 256 for i in range(n))
+
+    def whole(lengths, pool, steps):
+        return struct.pack(">6I", *lengths, 0, 0, 0, len(pool)) + pool + b"".join(struct.pack(">BII", *s) for s in steps)
+
+    def stores(nb, nw):
+        """Good ones of up to 2 bytes and 3 sections, some with an empty Ops section or with damage before the last section; a damaged
+        last section; bad counts."""
+        yield from ([], [mark], [op], [op, op], [data], [(3, 0, 0)], [direct], [delta], [mark, mark], [mark, op], [op, mark], [data, op], [op, data], [mark, op, mark], [op, mark, op])
+        yield [*record(0, 1, 0, 0), (18, 0, 1)]
+        yield [data, *record(1, 1, 1, 1), (18, 1, 2)]
+        yield [*record(0, 99, TOP, TOP), *record(1, 0, 7, 0), (18, 2, 2)]
+        yield [*record(0, 99, TOP, TOP), *record(1, 1, 1, 2), (18, 2, 2)]
+        for last in ((14, 0, 0), (257, 0, 1), (0, 1048576, 0), (0, 0, 1), (1, 0, 2), (1, 0, 0), (1, 2, 1), (2, 0, 0), (3, 0, 5), (4, 0, 1048576)):
+            yield [mark, *record(1, *last), (18, 1, 2)]
+        for b, s in ((1, 0), (TOP, 0), (nb + 1, 1), (2**24, 1), (2**24 + 1, 1), (0, nw // 3 + 1), (0, 1048576), (0, 1048577), (0, 1431655766), (0, TOP), (TOP, TOP)):
+            yield [*record(0, 1, 0, b), (18, b, s)]
+
+    # every store in slices of every small length, with runs from none to one that no slice holds; an op byte after each
+    for nb in range(7):
+        for nw in range(11):
+            told = (24, 0, nb), (25, 0, nw)
+            steps = [step for store in stores(nb, nw) for n in range(nb + 2) for step in ((0, 0, 0), *store, (12, 1, 1 + n), *told, op, *told)]
+            yield f"runs with slices {nb} and {nw}", whole((nb, nw), some(nb + 3), steps)
+    # parts of the pool, good and bad
+    for n in (0, 1, 5):
+        steps = [(12, a, b) for a in (0, 1, n - 1, n, n + 1, TOP) for b in (0, 1, n - 1, n, n + 1, TOP) if min(a, b) >= 0]
+        yield f"runs from a pool of {n}", whole((64, 6), some(n), [*steps, (24, 0, 64), (25, 0, 6)])
+    # long ones, in the longest slice and up to the longest pool
+    most = LIMITS[0]
+    for n in (255, 256, 65535, 65536, 65537, most - 1, most, most + 1, 1048000):
+        after = [(12, n, n), (24, 0, most), (25, 0, 6), (12, 0, 1), (24, most - 4, most), (25, 0, 6)]
+        yield f"a run of {n}", whole((most, 6), some(n), [(12, 0, n), *after])
+        yield f"a run of {n - 1} after an op byte and a mark", whole((most, 9), some(n), [op, mark, (12, 1, n), *after])
+    steps = [s for n in (0, 1, 2, 3, 4, 70000) for s in ((0, 0, 0), *record(0, 1, 0, most - 3), (18, most - 3, 1), (12, 65537, 65537 + n), (24, most - 5, most), (25, 0, 6))]
+    yield "runs at the longest slice's end", whole((most, 6), some(140000), steps)
 
 
 def line_11():

@@ -1,8 +1,8 @@
 #!/usr/bin/env python3
 """An independent model of `replay`. Reads a script on standard input, prints what replay must print.
-Written from REPLAY.md, document 01 (modules 1 to 6, Replies), READINGS 1 to 25, and op.rs for the names; it shares nothing with
-the Rattle code."""
-import sys
+Written from REPLAY.md, document 01 (modules 1 to 6, Replies), CR 1 of document 02, READINGS 1 to 25, and op.rs for the names; it
+shares nothing with the Rattle code."""
+import copy, sys
 
 LIMITS = (131072, 65536, 16384, 262144, 1048576)
 MAX_SCRIPT = 1048576
@@ -156,6 +156,14 @@ class Model:
             raise Refused(3)
         # pushed: kinds 4 to 8, raw: 9 to 13, in the order unsized, 1, 2, 3, 4
         self.section([4 + (form - 8) if form >= 8 else 9 + form, start, end])
+
+    def push_op_bytes(self, ops):
+        """One byte after the other on a copy, which takes the store's place if none is refused."""
+        tried = copy.copy(self)
+        tried.bytes, tried.words = self.bytes[:], self.words[:]
+        for byte in ops:
+            tried.run(1, bytes([byte]))
+        self.bytes, self.words, self.b, self.s = tried.bytes, tried.words, tried.b, tried.s
 
     def push_swap(self, d):
         if not 1 <= d <= 16:
@@ -335,6 +343,8 @@ class Model:
             return self.building(self.push_minimal, a)
         if kind == 11:
             return self.building(self.clear)
+        if kind == 12:
+            return self.building(self.push_op_bytes, part) if part is not None else None
         if kind == 16:
             if a >= len(self.bytes) or b > 255:
                 return None

@@ -49,6 +49,7 @@ u256 = lambda v: step(8, *keep(v.to_bytes(32, "big")))
 u64 = lambda v: step(9, v >> 32, v & TOP)
 u32 = lambda v: step(10, v)
 clear = lambda: step(11)
+ops = lambda what: step(12, *keep(what))
 set_byte = lambda i, v: step(16, i, v)
 set_word = lambda i, v: step(17, i, v)
 counts = lambda b, s: step(18, b, s)
@@ -103,6 +104,7 @@ def every_call():
     u64(2**32)
     u32(256)
     delta(1, 2, 8)
+    ops(b"\x60\x5b")
 
 
 def zeros(n):
@@ -357,6 +359,7 @@ for i in range(NEAR_SECTIONS - 1):
 data(bytes(range(100, 100 + NEAR_BYTES)))
 set_word(3 * SECTIONS - 1, BYTES - 1)
 op(0)
+ops(b"\x00\x01")
 mark(0)
 data(b"")
 swap(0)
@@ -385,6 +388,55 @@ record(1, 2, 0, 2)
 counts(2, 2)
 data(b"\xcc")
 show()
+
+# runs of op bytes: as single ones in turn; they extend Ops, an empty Ops section too, else add a section; an empty run adds none
+new()
+ops(b"")
+ops(b"\x60\x01\x5b")
+op(0x02)
+ops(b"\x03")
+data(b"\xaa")
+ops(b"")
+ops(b"\x5b\x00")
+ops(b"")
+record(3, 1, 8, 8)
+counts(8, 4)
+ops(b"\x04\x05")
+show()
+# an empty run tests nothing and is accepted: bad counts, a damaged last section; one byte is 6 there, and nothing changed
+for b, s in ((7, 0), (0, SECTIONS + 1), (TOP, TOP), (9, 4)):
+    counts(b, s)
+    ops(b"")
+    ops(b"\x06")
+show()
+# no section left after a mark: 5 if one byte fits, for a run that doesn't fit too; 4 if none does; the empty run
+nearly_full(1, 0)
+for what in (b"\x06", b"\x06\x07", b""):
+    ops(what)
+counts(BYTES, SECTIONS)
+for what in (b"\x06", b"\x06\x07", b""):
+    ops(what)
+show_ends()
+# and after Ops, where none is needed: longer by one than what is left, exactly as long, and with nothing left
+record(SECTIONS - 1, 1, 0, BYTES - 2)
+counts(BYTES - 2, SECTIONS)
+ops(b"\x06\x07\x08")
+show_ends()
+for what in (b"\x06\x07", b"\x08", b""):
+    ops(what)
+show_ends()
+# the same with one section left, which a refused run doesn't take
+nearly_full(NEAR_BYTES, 1)
+ops(bytes(range(100, 101 + NEAR_BYTES)))
+show_ends()
+ops(bytes(range(100, 100 + NEAR_BYTES)))
+show_ends()
+# a long one
+new()
+op(0x5B)
+ops(bytes(2048))
+step(24, 2040, 2060)
+step(25, 0, 6)
 
 # setting bytes and words: first, last, one past; values above a byte
 new()
@@ -716,7 +768,7 @@ step(26, TABLE, TABLE)
 # bad steps, and nothing changed by them
 new()
 op(0x5B)
-for kind in (12, 13, 14, 15, 23, 29, 30, 31, 37, 38, 39, 45, 46, 64, 128, 255):
+for kind in (13, 14, 15, 23, 29, 30, 31, 37, 38, 39, 45, 46, 64, 128, 255):
     step(kind, 0, 0)
 for v in (256, 257, TOP):
     op(v)
@@ -730,7 +782,7 @@ direct(MARK + 1, 5)
 for kind, n in ((24, BYTES), (25, WORDS), (26, TABLE), (27, RESULT), (28, LISTING)):
     for a, b in ((1, 0), (0, n + 1), (n + 1, n + 1), (n, n + 1), (TOP, TOP), (0, TOP), (TOP, 0)):
         step(kind, a, b)
-for kind in (3, 8):
+for kind in (3, 8, 12):
     for a, b in ((1, 0), (0, 1), (1, 1), (-1, -2), (0, 0)):
         steps.append((kind, a, b))
     step(kind, TOP, TOP)

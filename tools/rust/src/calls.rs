@@ -77,6 +77,15 @@ unsafe extern "C" {
         words_len: usize,
         byte: u8,
     ) -> u64;
+    fn sadrokki_push_op_bytes(
+        state: u64,
+        bytes: *mut u8,
+        bytes_len: usize,
+        words: *mut u32,
+        words_len: usize,
+        ops: *const u8,
+        ops_len: usize,
+    ) -> u64;
     fn sadrokki_push_swap(
         state: u64,
         bytes: *mut u8,
@@ -211,6 +220,20 @@ pub fn push_op_byte(state: u64, bytes: &mut [u8], words: &mut [u32], byte: u8) -
             words.as_mut_ptr(),
             words.len(),
             byte,
+        )
+    })
+}
+
+pub fn push_op_bytes(state: u64, bytes: &mut [u8], words: &mut [u32], ops: &[u8]) -> Answer {
+    Answer(unsafe {
+        sadrokki_push_op_bytes(
+            state,
+            bytes.as_mut_ptr(),
+            bytes.len(),
+            words.as_mut_ptr(),
+            words.len(),
+            ops.as_ptr(),
+            ops.len(),
         )
     })
 }

@@ -88,6 +88,12 @@ impl Assembler {
         self.build(|state, bytes, words| calls::push_op_byte(state, bytes, words, byte));
     }
 
+    /// The same as `push_op_byte` of each in turn, or nothing at all if one is refused. The original has no such method.
+    #[track_caller]
+    pub fn push_op_bytes(&mut self, ops: &[u8]) {
+        self.build(|state, bytes, words| calls::push_op_bytes(state, bytes, words, ops));
+    }
+
     #[track_caller]
     pub fn push_swap(&mut self, depth: u8) {
         self.build(|state, bytes, words| calls::push_swap(state, bytes, words, depth));

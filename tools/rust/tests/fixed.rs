@@ -1,6 +1,7 @@
-//! The wrapper on document 01's hand layouts, and where its slices have to grow.
+//! The wrapper on document 01's hand layouts, on runs of op bytes, and where its slices have to grow.
 
 use sadrokki::*;
+use std::panic::AssertUnwindSafe;
 
 enum Call {
     Mark(u32),
@@ -170,6 +171,51 @@ fn slices_grow() {
         past.unwrap_err().downcast_ref::<String>().unwrap(),
         "refused with number 4: bytes full"
     );
+}
+
+/// The code and the listing of a store.
+fn told(asm: &Assembler) -> (Vec<u8>, String) {
+    let mut result = Vec::new();
+    asm.assemble(&mut result, None).unwrap();
+    (result, asm.to_string())
+}
+
+#[test]
+fn runs() {
+    // As the same bytes singly, also where both slices have to grow.
+    let ops: Vec<u8> = (0..=255).cycle().take(1000).collect();
+    let mut asm = Assembler::with_capacity(0, 0);
+    let mut singly = Assembler::with_capacity(0, 0);
+    let lengths = [[3, 1000], [1, 0], [0, 7], [256, 1]];
+    for (mark, two) in (0..).zip(lengths) {
+        for run in two.map(|length| &ops[..length]) {
+            asm.push_op_bytes(run);
+            run.iter().for_each(|byte| singly.push_op_byte(*byte));
+            assert_eq!(told(&asm), told(&singly));
+        }
+        asm.push_mark(MarkId::new(mark));
+        singly.push_mark(MarkId::new(mark));
+    }
+    assert_eq!(told(&asm).0.len(), 1268);
+    // An empty one adds no section: the mark has no bytes between its placings, and the listing has the marks alone.
+    let mut asm = built(&[]);
+    asm.push_op_bytes(&[]);
+    asm.push_mark(MarkId::new(0));
+    asm.push_op_bytes(&[]);
+    asm.push_mark(MarkId::new(0));
+    assert_eq!(told(&asm), (vec![], ".mark0:\n.mark0:\n".to_string()));
+    // Up to the limit; a run of which only the last byte is past it stores nothing.
+    asm.push_op_bytes(&vec![0; (1 << 24) - 2]);
+    let past = std::panic::catch_unwind(AssertUnwindSafe(|| asm.push_op_bytes(&ops[..3])));
+    assert_eq!(
+        past.unwrap_err().downcast_ref::<String>().unwrap(),
+        "refused with number 4: bytes full"
+    );
+    asm.push_op_bytes(&ops[3..5]);
+    let mut result = Vec::new();
+    asm.assemble(&mut result, None).unwrap();
+    assert_eq!(result.len(), 1 << 24);
+    assert_eq!(result[(1 << 24) - 3..], [0, 3, 4]);
 }
 
 #[test]

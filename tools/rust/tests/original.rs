@@ -29,6 +29,7 @@ enum Call {
     Clear,
     Mark(u32),
     Op(u8),
+    Run(Vec<u8>),
     Swap(u8),
     Dup(u8),
     Exchange(u8, u8),
@@ -57,8 +58,14 @@ fn data(random: &mut Random) -> Call {
     Call::Data(vec![byte; random.below(most) as usize])
 }
 
+fn run(random: &mut Random) -> Call {
+    let most = random.one_of(&[0, 3, 40, 40]);
+    let length = random.below(most + 1);
+    Call::Run((0..length).map(|_| random.next() as u8).collect())
+}
+
 fn any_call(random: &mut Random, marks: u64) -> Call {
-    match random.below(24) {
+    match random.below(26) {
         0..=8 => reference(random, marks),
         9..=11 => data(random),
         12..=14 => Call::Op(random.next() as u8),
@@ -80,6 +87,7 @@ fn any_call(random: &mut Random, marks: u64) -> Call {
             Call::U32((random.next() >> bits) as u32)
         }
         21 if random.below(20) == 0 => Call::Clear,
+        22..=23 => run(random),
         _ => Call::Mark(random.below(marks) as u32),
     }
 }
@@ -112,7 +120,24 @@ fn call_list(random: &mut Random) -> Vec<Call> {
     calls
 }
 
-/// The same calls on either assembler; they have the same names.
+/// A run of op bytes, for which the original has no call.
+trait Runs {
+    fn push_run(&mut self, ops: &[u8]);
+}
+
+impl Runs for sadrokki::Assembler {
+    fn push_run(&mut self, ops: &[u8]) {
+        self.push_op_bytes(ops);
+    }
+}
+
+impl Runs for assembler::Assembler {
+    fn push_run(&mut self, ops: &[u8]) {
+        ops.iter().for_each(|byte| self.push_op_byte(*byte));
+    }
+}
+
+/// The same calls on either assembler; the others have the same names.
 macro_rules! make {
     ($asm:ident, $call:ident, $from:ident, $word:ty, $others:ident) => {{
         let mark = |mark| $from::MarkId::new(mark);
@@ -120,6 +145,7 @@ macro_rules! make {
             Call::Clear => $asm.clear(),
             Call::Mark(id) => $asm.push_mark(mark(*id)),
             Call::Op(byte) => $asm.push_op_byte(*byte),
+            Call::Run(ops) => $asm.push_run(ops),
             Call::Swap(depth) => $asm.push_swap(*depth),
             Call::Dup(depth) => $asm.push_dup(*depth),
             Call::Exchange(n, m) => $asm.push_exchange(*n, *m),
