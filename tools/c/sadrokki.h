@@ -36,10 +36,10 @@ uint64_t sadrokki_clear(uint64_t state);
 uint64_t sadrokki_push_mark(uint64_t state, const uint8_t *bytes, size_t bytes_len, uint32_t *words, size_t words_len, uint32_t mark);
 uint64_t sadrokki_push_op_byte(uint64_t state, uint8_t *bytes, size_t bytes_len, uint32_t *words, size_t words_len, uint8_t byte);
 /* A run of op bytes, all or nothing: as sadrokki_push_op_byte of each in turn, but if some byte would be refused, nothing is
- * stored and the first such byte's refusal is the answer. It is judged byte by byte: where no section is left for the first
- * byte, a run too long for the bytes is 5, and 4 only if not even one byte fits. An empty run tests nothing, adds no section
- * and is never refused: its answer is the state it was given, whatever that is. A state that is itself a refusal comes back. */
-uint64_t sadrokki_push_op_bytes(uint64_t state, uint8_t *bytes, size_t bytes_len, uint32_t *words, size_t words_len, const uint8_t *ops, size_t ops_len);
+ * stored and the first such byte's refusal is the answer. So: 6; 4, no room for one byte; 5, a section needed and none left;
+ * 4, no room for all. An empty run tests nothing, adds no section and is never refused: its answer is the state it was given,
+ * whatever that is. A state that is itself a refusal comes back as it was. */
+uint64_t sadrokki_push_op_bytes(uint64_t state, uint8_t *bytes, size_t bytes_len, uint32_t *words, size_t words_len, const uint8_t *run, size_t run_len);
 uint64_t sadrokki_push_swap(uint64_t state, uint8_t *bytes, size_t bytes_len, uint32_t *words, size_t words_len, uint8_t depth);
 uint64_t sadrokki_push_dup(uint64_t state, uint8_t *bytes, size_t bytes_len, uint32_t *words, size_t words_len, uint8_t depth);
 uint64_t sadrokki_push_exchange(uint64_t state, uint8_t *bytes, size_t bytes_len, uint32_t *words, size_t words_len, uint8_t n, uint8_t m);

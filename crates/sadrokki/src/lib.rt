@@ -3,7 +3,8 @@
 //
 // State: a store's two counts as one number, sections * 2^32 + stored bytes. Any number is taken: a state that no call answered is
 // judged as its counts are. A building call's refusal or 255 given on as a state has a section count above the limit: `sadrokki_clear`
-// answers the empty state, as to any; every other call refuses again, for its own arguments (1, 2, 3, 255) or else with 6 at section 0.
+// answers the empty state, as to any; an empty run of op bytes answers it as it was, as any state; every other call refuses again, for its
+// own arguments (1, 2, 3, 255) or else with 6 at section 0.
 //
 // Answer: number * 2^56 + mid * 2^32 + low.
 //   number 0, accepted: a building call has mid = sections and low = stored bytes, so that its answer is the next state;

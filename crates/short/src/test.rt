@@ -68,11 +68,11 @@ pub(crate) fn begins_ops(state: u64, bytes: &[u8], words: &[u32], added: usize) 
     requires { ⌜ added < 2 ^ 63 ⌝ }
     ensures { λ r. ⌜ (r ≡ true → Begins wordsPerSection added (storeIn state (now (bytes .entry)) (now (words .entry)))) ⌝ }
 {
-    let stored = (state % SECTION) as usize;
-    if bytes.len() < stored + added {
+    let end = (state % SECTION) as usize + added;
+    if bytes.len() < end {
         return false;
     }
-    if (Assembler::MAX_BYTES as usize) < stored + added {
+    if (Assembler::MAX_BYTES as usize) < end {
         return false;
     }
     if !takes_section(state, bytes, words) {

@@ -83,8 +83,8 @@ unsafe extern "C" {
         bytes_len: usize,
         words: *mut u32,
         words_len: usize,
-        ops: *const u8,
-        ops_len: usize,
+        run: *const u8,
+        run_len: usize,
     ) -> u64;
     fn sadrokki_push_swap(
         state: u64,
@@ -224,7 +224,7 @@ pub fn push_op_byte(state: u64, bytes: &mut [u8], words: &mut [u32], byte: u8) -
     })
 }
 
-pub fn push_op_bytes(state: u64, bytes: &mut [u8], words: &mut [u32], ops: &[u8]) -> Answer {
+pub fn push_op_bytes(state: u64, bytes: &mut [u8], words: &mut [u32], run: &[u8]) -> Answer {
     Answer(unsafe {
         sadrokki_push_op_bytes(
             state,
@@ -232,8 +232,8 @@ pub fn push_op_bytes(state: u64, bytes: &mut [u8], words: &mut [u32], ops: &[u8]
             bytes.len(),
             words.as_mut_ptr(),
             words.len(),
-            ops.as_ptr(),
-            ops.len(),
+            run.as_ptr(),
+            run.len(),
         )
     })
 }

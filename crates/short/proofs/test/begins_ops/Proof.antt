@@ -7,17 +7,14 @@ use borrow.Author.Needs.{needs}
 use Rattle.short.proofs.test.begins_ops.Statement.{statement}
 use Rattle.short.proofs.test.begins_ops.Tie as tie
 
-add-if1 : tie.Need-add-if1
-add-if1 c = search needs
+add-end : tie.Need-add-end
+add-end c = search needs
 
 returns : tie.Need-returns
 returns c = λ h. absurd (false≢true h)
 
 cast-if2 : tie.Need-cast-if2
 cast-if2 c = search needs
-
-add-if2 : tie.Need-add-if2
-add-if2 c = search needs
 
 returns-2 : tie.Need-returns-2
 returns-2 c = λ h. absurd (false≢true h)
@@ -62,10 +59,9 @@ pub begins-ops-spec : {M : Type 1} → statement M
 begins-ops-spec =
     tie.close
     (tie.spec
-    add-if1
+    add-end
     returns
     cast-if2
-    add-if2
     returns-2
     takes-section-requires
     returns-3
