@@ -343,6 +343,23 @@ module _ (w : ℕ) (bs : List ℕ) (st : Store) where
   )
 
 module _ (w : ℕ) (b : ℕ) (bs : List ℕ) (st : Store) (h : 3 ≤ w) where
+  -- the closed form, by what its tests find: one byte fits and no section is left
+  once-five : lastSoundness w st ≡ Sound → noByteLeft st ≡ false → sectionPasses w (ops (b ∷ bs)) st ≡ true
+      → atOnceReply w (b ∷ bs) st ≡ refused sectionsFull 0 0
+  unfolding atOnceReply
+  once-five e one s = simp (e, one, s)
+
+  -- no byte fits
+  once-four : lastSoundness w st ≡ Sound → noByteLeft st ≡ true → atOnceReply w (b ∷ bs) st ≡ refused bytesFull 0 0
+  unfolding atOnceReply
+  once-four e one = simp (e, one)
+
+  -- the first byte is taken: all or none
+  once-rest : lastSoundness w st ≡ Sound → noByteLeft st ≡ false → sectionPasses w (ops (b ∷ bs)) st ≡ false
+      → atOnceReply w (b ∷ bs) st ≡ cond (bytesPass (ops (b ∷ bs)) st) (refused bytesFull 0 0) (accepted (countsOf (withSection w (ops (b ∷ bs)) st)))
+  unfolding atOnceReply
+  once-rest e one s = simp (e, one, s)
+
   run-damaged : (i : ℕ) → lastSoundness w st ≡ Damaged i → Same w (b ∷ bs) st
   unfolding atOnceReply
   run-damaged i e =
@@ -350,7 +367,7 @@ module _ (w : ℕ) (b : ℕ) (bs : List ℕ) (st : Store) (h : 3 ≤ w) where
       same-refused w (b ∷ bs) st damaged i 0 (all-refused w (pushOpByte b) (eachOpByte bs) st damaged i 0 one) (rw e)
 
   run-sound : lastSoundness w st ≡ Sound → Same w (b ∷ bs) st
-  unfolding atOnceReply bytesPass
+  unfolding bytesPass
   run-sound e = bytes (dichotomy (noByteLeft st)) (dichotomy (sectionPasses w (ops (b ∷ [])) st)) (dichotomy (bytesPass (ops (b ∷ bs)) st))
     where
       any : sectionPasses w (ops (b ∷ bs)) st ≡ sectionPasses w (ops (b ∷ [])) st
@@ -359,13 +376,16 @@ module _ (w : ℕ) (b : ℕ) (bs : List ℕ) (st : Store) (h : 3 ≤ w) where
       bytes : (noByteLeft st ≡ false) ⊎ (noByteLeft st ≡ true)
           → (sectionPasses w (ops (b ∷ [])) st ≡ false) ⊎ (sectionPasses w (ops (b ∷ [])) st ≡ true)
           → (bytesPass (ops (b ∷ bs)) st ≡ false) ⊎ (bytesPass (ops (b ∷ bs)) st ≡ true) → Same w (b ∷ bs) st
-      bytes (inr one) s all = same-refused w (b ∷ bs) st bytesFull 0 0 (first-full w h b bs st e one) (rw (e, one))
-      bytes (inl one) (inr s) all = same-refused w (b ∷ bs) st sectionsFull 0 0 (first-sectionless w h b bs st e one s) (rw (e, one, any, s))
+      bytes (inr one) s all = same-refused w (b ∷ bs) st bytesFull 0 0 (first-full w h b bs st e one) (once-four e one)
+      bytes (inl one) (inr s) all =
+          same-refused w (b ∷ bs) st sectionsFull 0 0 (first-sectionless w h b bs st e one s) (once-five e one (any ∙ s))
       bytes (inl one) (inl s) (inr all) =
-          same-refused w (b ∷ bs) st bytesFull 0 0 (stored-or-full w b bs st h e one s .reply ∙ cond-true _ _ _ all) (rw (e, one, any, s, all))
+          same-refused w (b ∷ bs) st bytesFull 0 0 (stored-or-full w b bs st h e one s .reply ∙ cond-true _ _ _ all)
+          (once-rest e one (any ∙ s) ∙ cond-true _ _ _ all)
       bytes (inl one) (inl s) (inl all) =
           let c = stored-or-full w b bs st h e one s in
-          same-stored w (b ∷ bs) st _ (c .reply ∙ cond-false _ _ _ all) (rw (e, one, any, s, all)) (c .after all)
+          same-stored w (b ∷ bs) st _ (c .reply ∙ cond-false _ _ _ all)
+          (once-rest e one (any ∙ s) ∙ cond-false _ _ _ all) (c .after all)
 
   run-same : Same w (b ∷ bs) st
   run-same = go (lastSoundness w st) refl
