@@ -1,7 +1,7 @@
 -- What the Rust's definition computes, without a theorem: sums and differences that wrap round, its debug assertion, single calls and
--- steps, a table that grows, the answers to lines 7, 8 and 12 of 01's layouts tried by hand, a reference behind a mark that moves, and marks
--- with bytes between their placings. Files are checked by their names' order; this one's has it refuse a wrong definition first, at what
--- it computes. Assumes nothing.
+-- steps, a table that grows, the answers to lines 7, 8 and 12 of 01's layouts tried by hand and to a loop of runs of op bytes, a reference
+-- behind a mark that moves, and marks with bytes between their placings. Files are checked by their names' order; this one's has it refuse
+-- a wrong definition first, at what it computes. Assumes nothing.
 use Prim.Native.Nat.{ℕ, zero, suc, _+_, _*_, max}
 use native.Mathlib.Omega.{arith}
 use mathlib.Core.Path.{_≡_, refl}
@@ -167,6 +167,25 @@ showText =
 pub rust-text-12 : writeAsm showStore ≡ done showText
 unfolding writeAsm textFrom range markLine dataLine fmtOps fmtOpsFrom pushLine pushSize hexBytes hexDigit displayed digitsBefore fmtMarkRef asBytes opName lookup opNames
 rust-text-12 = refl
+
+-- ---- runs of op bytes
+
+-- mark 0, the runs 5b 5f and 50, a pushed reference to mark 0, the empty run, the run 56: a loop
+abbrev pub loopStore : Assembler
+loopStore =
+    record {
+      bytes = 0x5b ∷ 0x5f ∷ 0x50 ∷ 0x56 ∷ [];
+      sections = Mark 0 ∷ Ops (record { start = 0; end = 3 }) ∷ DirectMarkRef 0 Unsized true ∷ Ops (record { start = 3; end = 4 }) ∷ [];
+    }
+
+-- the reference is a PUSH0
+abbrev pub loopCode : List ℕ
+loopCode = 0x5b ∷ 0x5f ∷ 0x50 ∷ 0x5f ∷ 0x56 ∷ []
+
+-- the Rust's own answer
+pub rust-loop : (build : Build) → assemble build doubling none loopStore [] ≡ done (assembled (replicate 128 0) loopCode)
+unfolding assemble converge grow resize startFrom walkFrom iterate emitFrom emitRef emitBytes index indexMut addU32 subU32 range bytesToHold leBytes saturatingSub
+rust-loop build = refl
 
 -- ---- a reference behind a moved mark is sized by the mark's new offset
 

@@ -14,7 +14,7 @@ use Rattle.records.specs.declared.Assembler as records
 use Rattle.records.specs.Store.{Store, wordsPerSection, countsOf, maxBytes, maxSections}
 use Rattle.records.specs.Damage.{lastSoundness}
 use Rattle.records.specs.Sections.{Section, decode}
-use Rattle.calls.specs.Calls.{BuiltReply, Push, Call, push, clear, hasLargeMark, added, bytesOf, joins, joined, appended, withSection, bytesPass, noSectionLeft, sectionPasses, pushReply, pushAfter, callReply, callAfter, runReplies, runAfter, emptied}
+use Rattle.calls.specs.Calls.{BuiltReply, Push, pushOpByte, Call, push, pushOpBytes, clear, hasLargeMark, added, bytesOf, joins, joined, appended, withSection, bytesPass, noSectionLeft, sectionPasses, pushReply, pushAfter, allReply, eachAfter, eachOpByte, callReply, callAfter, runReplies, runAfter, emptied}
 use Rattle.calls.specs.Lists.{addedTo}
 use Rattle.undamaged.specs.View.{Undamaged}
 use Rattle.calls.specs.Answers.{IsStored, EveryStored}
@@ -22,16 +22,17 @@ use Rattle.undamaged.specs.View.{unsound}
 use Rattle.slices.proofs.Tests.{false-and, cond-case}
 use Rattle.undamaged.proofs.Soundness.{undamaged-iff, undamaged-last-sound}
 use Rattle.calls.proofs.Added.{BytesRoom, added-apart}
-use Rattle.calls.proofs.Refusals.{push-answers, accepted-added}
+use Rattle.calls.proofs.Refusals.{push-answers, accepted-added, all-next, all-first, all-each}
 use Rattle.calls.proofs.Calls.{large-same, call-kept, call-accepted, emptied-undamaged, emptied-decode}
 use Rattle.settling.proofs.Sections.{decode-count}
 use Rattle.rust_model.specs.Run.{done, Build}
-use Rattle.rust_model.specs.Building.{Assembler, empty, call, calls}
+use Rattle.rust_model.specs.Building.{Assembler, empty, opByte, opBytes, pushCall, call, calls}
 use Rattle.rust_model.specs.Sections.{fromStored, iterSections}
 use Rattle.rust_model.specs.Demand2.{seen, sectionsOf, Fits, marksWithin, AlwaysFits, Builds, opened, built, SameStore}
 use Rattle.rust_model.proofs.Spans.{Spans}
 use Rattle.rust_model.proofs.Runs.{done-inj, andThen-done}
 use Rattle.rust_model.proofs.Adds.{Kept}
+use Rattle.rust_model.proofs.Bytes.{op-bytes, ops-longer}
 use Rattle.rust_model.proofs.Pushes.{Pushed, push-same}
 use Rattle.rust_model.proofs.Converse.{Comes, push-comes}
 
@@ -124,12 +125,49 @@ module _ (build : Build) (bs words : List ℕ) where
         kept = record { spans = tt; last = tt };
       }
 
+  -- a call that adds
+  pushed-same : (p : Push) (st : Store) (a a′ : Assembler) → Same bs words st a → hasLargeMark p ≡ false → pushCall build p a ≡ done a′ → Fits bs words a′
+      → (counts : records.Assembler) × (pushReply wordsPerSection p st ≡ accepted counts) × Same bs words (pushAfter wordsPerSection p st) a′
+  pushed-same p st a a′ s m r f =
+      let q : Pushed p a a′ = push-same build p a a′ (s .kept) r in
+      let stored = reply bs words st a a′ p s q f m in
+      (_, stored, same-after bs words st a a′ p s q _ stored)
+
+  -- what fits after op bytes fitted before them: neither bytes nor sections get fewer
+  fits-before : (run : List ℕ) (a a′ : Assembler) → Kept a → opBytes a run ≡ done a′ → Fits bs words a′ → Fits bs words a
+  unfolding opBytes
+  fits-before [] a a′ k r f = subst (Fits bs words) (sym (done-inj r)) f
+  fits-before (b ∷ run) a a′ k r f =
+      let q = op-bytes a a′ b run k r in
+      let long : length (a′ .bytes) ≡ length (a .bytes) + length (b ∷ run) = ap length (q .bytesAdded) ∙ length-append (a .bytes) (b ∷ run) in
+      let more : length (a .sections) ≤ length (a′ .sections) = omega (arith, ops-longer (sectionsOf a) (b ∷ run), ap length (q .list), list-count a, list-count a′) in
+      record {
+        bytesLimit = omega (arith, f .bytesLimit);
+        bytesFit = omega (arith, f .bytesFit);
+        sectionsLimit = omega (arith, f .sectionsLimit);
+        wordsFit = omega (arith, f .wordsFit);
+      }
+
+  -- a run of op bytes: each is stored
+  bytes-same : (run : List ℕ) (st : Store) (a a′ : Assembler) → Same bs words st a → opBytes a run ≡ done a′ → Fits bs words a′
+      → (counts : records.Assembler) × (allReply wordsPerSection (eachOpByte run) st ≡ accepted counts) × Same bs words (eachAfter wordsPerSection (eachOpByte run) st) a′
+  unfolding opBytes allReply eachAfter
+  bytes-same [] st a a′ s r f = (countsOf st, refl, subst (Same bs words st) (done-inj r) s)
+  bytes-same (b ∷ run) st a a′ s r f =
+      let r₁ = andThen-done (opByte a b) (λ x. opBytes x run) a′ r in
+      let k = push-same build (pushOpByte b) a (r₁ .0) (s .kept) (r₁ .1) .adds .kept in
+      let one = pushed-same (pushOpByte b) st a (r₁ .0) s refl (r₁ .1) (fits-before run (r₁ .0) a′ k (r₁ .2) f) in
+      let rest = bytes-same run (pushAfter wordsPerSection (pushOpByte b) st) (r₁ .0) a′ (one .2) (r₁ .2) f in
+      (rest .0, all-next wordsPerSection (pushOpByte b) (eachOpByte run) st (one .0) (one .1) ∙ rest .1, rest .2)
+
   call-same : (c : Call) (st : Store) (a a′ : Assembler) → Same bs words st a → marksWithin c → call build c a ≡ done a′ → Fits bs words a′
       → IsStored (callReply wordsPerSection c st) × Same bs words (callAfter wordsPerSection c st) a′
   call-same (push p) st a a′ s m r f =
-      let q : Pushed p a a′ = push-same build p a a′ (s .kept) r in
-      let stored = reply bs words st a a′ p s q f m in
-      (subst IsStored (sym stored) tt, same-after bs words st a a′ p s q _ stored)
+      let one = pushed-same p st a a′ s m r f in
+      (subst IsStored (sym (one .1)) tt, one .2)
+  call-same (pushOpBytes run) st a a′ s m r f =
+      let all = bytes-same run st a a′ s r f in
+      (subst IsStored (sym (all .1)) tt, rw (all-each wordsPerSection (eachOpByte run) st (all .0) (all .1)) (all .2))
   call-same clear st a a′ s m r f = (tt, subst (Same bs words (emptied st)) (done-inj r) (same-empty st (s .bytesLent) (s .wordsLent)))
 
   run-same : (cs : List Call) (st : Store) (a a′ : Assembler) → Same bs words st a → calls build cs a ≡ done a′ → AlwaysFits build bs words cs a
@@ -169,8 +207,14 @@ module _ (build : Build) (bs words : List ℕ) where
     within : marksWithin c
     same : Same bs words (callAfter wordsPerSection c st) after
 
-  push-stored : (p : Push) (st : Store) (a : Assembler) → Same bs words st a → (r : BuiltReply) → pushReply wordsPerSection p st ≡ r → IsStored r → CallComes (push p) st a
-  push-stored p st a s (accepted counts) e t =
+  -- the counts of an accepted answer
+  stored-counts : (r : BuiltReply) → IsStored r → (counts : records.Assembler) × (r ≡ accepted counts)
+  stored-counts (accepted counts) t = (counts, refl)
+  stored-counts (refused n i k) t = absurd t
+
+  -- one that adds
+  push-stored : (p : Push) (st : Store) (a : Assembler) → Same bs words st a → (counts : records.Assembler) → pushReply wordsPerSection p st ≡ accepted counts → CallComes (push p) st a
+  push-stored p st a s counts e =
       let n = push-answers wordsPerSection p st .accepted-iff counts .0 e .0 in
       let marks = n .1 .1 in
       let bytes = marks .1 .1 in
@@ -178,10 +222,26 @@ module _ (build : Build) (bs words : List ℕ) where
       let run = push-comes build p a (s .kept) (n .0) (n .1 .0) (omega (arith, s .count)) in
       let q : Pushed p a (run .0) = push-same build p a (run .0) (s .kept) (run .1) in
       record { after = run .0; comes = run .1; within = marks .0; same = same-after bs words st a (run .0) p s q counts e }
-  push-stored p st a s (refused n i k) e t = absurd t
+
+  -- a run of op bytes: each comes
+  bytes-stored : (run : List ℕ) (st : Store) (a : Assembler) → Same bs words st a → (counts : records.Assembler) → allReply wordsPerSection (eachOpByte run) st ≡ accepted counts
+      → (a′ : Assembler) × (opBytes a run ≡ done a′) × Same bs words (eachAfter wordsPerSection (eachOpByte run) st) a′
+  unfolding opBytes eachAfter
+  bytes-stored [] st a s counts e = (a, refl, s)
+  bytes-stored (b ∷ run) st a s counts e =
+      let first = all-first wordsPerSection (pushOpByte b) (eachOpByte run) st counts e in
+      let one = push-stored (pushOpByte b) st a s (first .0) (first .1) in
+      let rest = bytes-stored run (pushAfter wordsPerSection (pushOpByte b) st) (one .after) (one .same) counts (first .2) in
+      (rest .0, rw (one .comes) (rest .1), rest .2)
 
   call-stored : (c : Call) (st : Store) (a : Assembler) → Same bs words st a → IsStored (callReply wordsPerSection c st) → CallComes c st a
-  call-stored (push p) st a s t = push-stored p st a s (pushReply wordsPerSection p st) refl t
+  call-stored (push p) st a s t =
+      let r = stored-counts (pushReply wordsPerSection p st) t in
+      push-stored p st a s (r .0) (r .1)
+  call-stored (pushOpBytes run) st a s t =
+      let r = stored-counts (allReply wordsPerSection (eachOpByte run) st) t in
+      let all = bytes-stored run st a s (r .0) (r .1) in
+      record { after = all .0; comes = all .1; within = tt; same = rw (all-each wordsPerSection (eachOpByte run) st (r .0) (r .1)) (all .2) }
   call-stored clear st a s t = record { after = empty; comes = refl; within = tt; same = same-empty st (s .bytesLent) (s .wordsLent) }
 
   run-stored : (cs : List Call) (st : Store) (a : Assembler) → Same bs words st a → EveryStored (runReplies wordsPerSection cs st)

@@ -1,5 +1,6 @@
 -- Op bytes and data pushed to the Rust's store: they join a last section of their kind, and else are a new one. Assumes nothing.
-use Prim.Native.Nat.{ℕ}
+use Prim.Native.Nat.{ℕ, _≤_}
+use native.Mathlib.Omega.{arith}
 use mathlib.Core.Path.{_≡_, refl, ap, _∙_, subst}
 use mathlib.Core.Bool.{Bool, true, false, cond}
 use mathlib.Core.List.{List, [], _∷_, _++_, append-assoc}
@@ -80,6 +81,16 @@ ops-join : (l : List Section) (bs cs : List ℕ) → addedTo (addedTo l (ops bs)
 unfolding addedTo addedAfter
 ops-join [] bs cs = refl
 ops-join (x ∷ xs) bs cs = ops-after x xs bs cs
+
+-- a list with op bytes isn't shorter
+pub ops-longer : (l : List Section) (bs : List ℕ) → length l ≤ length (addedTo l (ops bs))
+unfolding addedTo addedAfter
+ops-longer [] bs = omega arith
+ops-longer (mark m ∷ []) bs = omega arith
+ops-longer (ops new ∷ []) bs = omega arith
+ops-longer (bytes new ∷ []) bs = omega arith
+ops-longer (reference r ∷ []) bs = omega arith
+ops-longer (x ∷ y ∷ ys) bs = omega (arith, ops-longer (y ∷ ys) bs)
 
 adds-join : (a b c : Assembler) (bs cs : List ℕ) → Adds (ops bs) a b → Adds (ops cs) b c → Adds (ops (bs ++ cs)) a c
 adds-join a b c bs cs p q =

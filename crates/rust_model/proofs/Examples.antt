@@ -1,5 +1,5 @@
--- Lines 7, 8 and 12 of 01's layouts tried by hand, carried through demand 2: the Rust's answer is computed from its definition, and the
--- theorem says that ours is the same. Assumes nothing.
+-- Lines 7, 8 and 12 of 01's layouts tried by hand, and a list with runs of op bytes, carried through demand 2: the Rust's answer is
+-- computed from its definition, and the theorem says that ours is the same. Assumes nothing.
 use Prim.Native.Nat.{ℕ, _+_, _*_, _≤_}
 use native.Mathlib.Omega.{arith}
 use mathlib.Core.Path.{_≡_, refl, sym, ap, _∙_, subst}
@@ -15,7 +15,7 @@ use Rattle.units.specs.declared.SetSize.the-variants.{Unsized, Sized}
 use Rattle.units.specs.declared.MarkReference.the-variants.{Delta}
 use Rattle.records.specs.Store.{maxBytes, maxSections, wordsPerSection}
 use Rattle.slices.specs.First.{leastFrom}
-use Rattle.calls.specs.Calls.{Call, push, clear, hasLargeMark, pushReference}
+use Rattle.calls.specs.Calls.{Call, push, pushOpBytes, clear, hasLargeMark, pushReference}
 use Rattle.slices.specs.Over.{over}
 use Rattle.units.specs.Replies.{tooNarrow}
 use Rattle.units.specs.Reply.{accepted, refused}
@@ -26,10 +26,10 @@ use Rattle.assembler.specs.Assemble.{Outcome, written, assembly}
 use Rattle.listing.specs.Answer.{listingReply, listingBuffer}
 use Rattle.hand.proofs.Lines.{placing, op, «data», ref, far}
 use Rattle.rust_model.specs.Run.{Run, done, panic, Build, index, lenIdx, pushed}
-use Rattle.rust_model.specs.Building.{Assembler, empty, lastOf, lastMut, newOps, opByte, newData, pushedData, call, calls}
+use Rattle.rust_model.specs.Building.{Assembler, empty, lastOf, lastMut, extendOps, newOps, opByte, opBytes, newData, pushedData, call, calls}
 use Rattle.rust_model.specs.Assemble.{assembled, assemble}
 use Rattle.rust_model.specs.Demand2.{sectionsOf, Fits, marksWithin, AlwaysFits, Builds, built, Assembles, SameAssembly}
-use Rattle.rust_model.proofs.AnswersComputed.{doubling, doubling-reserves, farStore, rust-7, rust-8, showStore, showCode, rust-12, showText, rust-text-12}
+use Rattle.rust_model.proofs.AnswersComputed.{doubling, doubling-reserves, farStore, rust-7, rust-8, showStore, showCode, rust-12, showText, rust-text-12, loopStore, loopCode, rust-loop}
 use Rattle.rust_model.proofs.Demand2.{demand-2}
 use Rattle.rust_model.proofs.Runs.{done-inj}
 
@@ -48,6 +48,7 @@ fitsNow bs words a =
 
 unfoldable isWithin : Call → Bool
 isWithin (push p) = not (hasLargeMark p)
+isWithin (pushOpBytes bs) = true
 isWithin clear = true
 
 unfoldable fitsAfter : (Assembler → Bool) → Run Assembler → Bool
@@ -70,6 +71,7 @@ now-law bs words a e =
 within-law : (c : Call) → isWithin c ≡ true → marksWithin c
 unfolding isWithin
 within-law (push p) e = not-true (hasLargeMark p) e
+within-law (pushOpBytes bs) e = tt
 within-law clear e = tt
 
 -- and of a list of calls
@@ -200,3 +202,38 @@ line-12-text buffer fits =
       subst (λ (t : List ℕ). length t ≤ length buffer → listingReply wordsPerSection (built showBytes showWords showCalls) buffer ≡ accepted (length t)) is (same .reply buffer) fits,
       subst (λ (t : List ℕ). length t ≤ length buffer → listingBuffer wordsPerSection (built showBytes showWords showCalls) buffer ≡ t ++ drop (length t) buffer) is (same .holds buffer) fits,
     )
+
+-- ---- runs of op bytes
+
+-- the second joins the first, the empty one adds nothing
+abbrev loopCalls : List Call
+loopCalls = placing 0 ∷ pushOpBytes (0x5b ∷ 0x5f ∷ []) ∷ pushOpBytes (0x50 ∷ []) ∷ ref true Unsized 0 ∷ pushOpBytes [] ∷ pushOpBytes (0x56 ∷ []) ∷ []
+
+-- lent slices that are just long enough
+abbrev loopBytes : List ℕ
+loopBytes = replicate 4 0
+
+abbrev loopWords : List ℕ
+loopWords = replicate 12 0
+
+-- the calls come to the store
+loop-builds : (build : Build) → Builds build loopBytes loopWords loopCalls loopStore
+unfolding calls opBytes opByte lastMut lastOf extendOps newOps lenIdx pushed fitsFrom fitsAfter fitsNow isWithin
+loop-builds build = record { noPanic = refl; fits = fits-law build loopBytes loopWords loopCalls empty refl }
+
+-- by a lent table of one entry
+loop-assembles : Assembles loopStore 1
+unfolding firstShort shortAt firstUnplaced unplacedAt firstApart apartAt leastFrom placed someBytes
+loop-assembles = assembles loopStore 1 refl refl refl
+
+-- what ours comes to
+abbrev loopOurs : List ℕ → Outcome
+loopOurs result = assembly wordsPerSection (built loopBytes loopWords loopCalls) 1 result 0
+
+-- the code
+pub loop-code : (result : List ℕ) → 5 ≤ length result
+    → (passes : ℕ) × (loopOurs result .reply ≡ written 5 passes) × (loopOurs result .result ≡ over result 0 loopCode)
+loop-code result fits =
+    let same = demand-2 release loopBytes loopWords loopCalls loopStore (loop-builds release) .assembly 1 loop-assembles doubling doubling-reserves none [] result 0 in
+    let q = carried loopStore (replicate 128 0) loopCode result (loopOurs result) (subst (SameAssembly loopStore [] result 0 (loopOurs result)) (rust-loop release) same) fits in
+    (q .0, q .1, q .2)

@@ -13,7 +13,7 @@ use Rattle.units.specs.declared.MarkSpan.{MarkSpan}
 use Rattle.units.specs.declared.MarkReference.{MarkReference}
 use Rattle.units.specs.declared.MarkReference.the-variants.{Direct, Delta}
 use Rattle.calls.specs.Calls.{Push, pushMark, pushOpByte, pushSwap, pushDup, pushExchange, pushData, pushReference}
-use Rattle.calls.specs.Calls.{pushMinimalU256, pushMinimalU64, pushMinimalU32, Call, push, clear}
+use Rattle.calls.specs.Calls.{pushMinimalU256, pushMinimalU64, pushMinimalU32, Call, push, pushOpBytes, clear}
 use Rattle.rust_model.specs.Run.{Run, done, panic, andThen, Build, debugAssert, lenIdx, pushed}
 
 -- `Span<AsmBytesIdx>`
@@ -260,9 +260,10 @@ pushCall build (pushMinimalU32 v) a = minimal a v
 pushCall build (pushData added) a = pushedData build a added
 pushCall build (pushReference r) a = done (pushSection a (storedRef (r .«mark_ref») (r .«set_size») (r .pushed)))
 
--- `clear` empties both
+-- `clear` empties both; a run of op bytes, which the Rust has no call for, is `push_op_byte` in turn
 abbrev pub call : Build → Call → Assembler → Run Assembler
 call build (push p) a = pushCall build p a
+call build (pushOpBytes bs) a = opBytes a bs
 call build clear a = done empty
 
 -- one call after another

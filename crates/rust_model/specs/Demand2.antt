@@ -14,7 +14,7 @@ use Rattle.units.specs.Replies.{tooNarrow, unsettled, backward}
 use Rattle.units.specs.Reply.{accepted, refused}
 use Rattle.records.specs.Store.{Store, storeOf, emptyCounts, wordsPerSection, maxBytes, maxSections}
 use Rattle.records.specs.Sections.{Section, mark, ops, bytes, reference, decode}
-use Rattle.calls.specs.Calls.{Call, push, clear, hasLargeMark, runReplies, runAfter}
+use Rattle.calls.specs.Calls.{Call, push, pushOpBytes, clear, hasLargeMark, runReplies, runAfter}
 use Rattle.slices.specs.Over.{over}
 use Rattle.calls.specs.Answers.{EveryStored}
 use Rattle.layout.specs.Passes.{entry}
@@ -52,6 +52,7 @@ pub record Fits (bs words : List ℕ) (a : Assembler) : Type 0 where
 -- 'A mark number is 0 to 1,048,575'
 abbrev pub marksWithin : Call → Type 0
 marksWithin (push p) = hasLargeMark p ≡ false
+marksWithin (pushOpBytes bs) = Unit {0}
 marksWithin clear = Unit {0}
 
 -- so at each call of a list
