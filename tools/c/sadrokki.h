@@ -9,6 +9,7 @@
  *     write_asm: the whole answer is the text's length; op_name, size_for, least_size: low = bytes.
  *   number 1 to 14, a refusal of document 01: mid = passes, low = section.
  *   number 255: an argument names nothing; nothing changed.
+ *   An empty run of op bytes is accepted and answers its state, whatever number that has.
  * A building call's refusal or 255, given on as a state, has a section count above the limit. sadrokki_clear takes it, as any
  * state, and answers the empty one; an empty run of op bytes answers it as it was; every other call refuses again: for its own
  * arguments (1, 2, 3, 255), else with 6 at section 0. So where the first building call was given a state with number 0 and each
@@ -38,7 +39,8 @@ uint64_t sadrokki_push_op_byte(uint64_t state, uint8_t *bytes, size_t bytes_len,
 /* A run of op bytes, all or nothing: as sadrokki_push_op_byte of each in turn, but if some byte would be refused, nothing is
  * stored and the first such byte's refusal is the answer. So: 6; 4, no room for one byte; 5, a section needed and none left;
  * 4, no room for all. An empty run tests nothing, adds no section and is never refused: its answer is the state it was given,
- * whatever that is. A state that is itself a refusal comes back as it was. */
+ * whatever that is. So a state that is itself a refusal comes back as it was, and so do 2^24 sections and more, whose number
+ * isn't 0 either. */
 uint64_t sadrokki_push_op_bytes(uint64_t state, uint8_t *bytes, size_t bytes_len, uint32_t *words, size_t words_len, const uint8_t *run, size_t run_len);
 uint64_t sadrokki_push_swap(uint64_t state, uint8_t *bytes, size_t bytes_len, uint32_t *words, size_t words_len, uint8_t depth);
 uint64_t sadrokki_push_dup(uint64_t state, uint8_t *bytes, size_t bytes_len, uint32_t *words, size_t words_len, uint8_t depth);

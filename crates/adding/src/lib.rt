@@ -73,8 +73,9 @@ pub fn add_bytes(
     })
 }
 
-// Adds a run of op bytes, judged byte by byte, all or nothing. Refusals: 6, 4 (no room for one byte), 5, 4 (no room for all).
-// Judged here is the first byte: where it is accepted, no later one needs a section, and only the room for all is left to be judged.
+// Adds a run of op bytes that isn't empty, judged byte by byte, all or nothing. Refusals: 6, 4 (no room for one byte), 5, 4 (no room for
+// all). Judged here is the first byte: where it is accepted, no later one needs a section, and only the room for all is left to be judged.
+// An empty run is taken too, and judged as one that needs room for a byte: its caller answers it without this.
 pub fn add_run(state: u64, bytes: &mut [u8], words: &mut [u32], run: &[u8]) -> u64
     ensures reply { λ r. ⌜ r ≡ builtNumber (atOnceReply wordsPerSection (now (run .entry))
         (storeIn state (now (bytes .entry)) (now (words .entry)))) ⌝ }

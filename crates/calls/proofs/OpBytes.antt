@@ -1,7 +1,7 @@
 -- A run of op bytes: each byte pushed in turn, all or nothing, comes to what judging the run at once gives. For every store, damaged or
 -- not. Assumes nothing.
 use Prim.Native.Nat.{ℕ, zero, suc, _+_, _*_, _-_, _≤_, _<_, min}
-use native.Mathlib.Nat.{add-zero, add-assoc}
+use native.Mathlib.Nat.{add-zero}
 use native.Mathlib.Omega.{arith}
 use mathlib.Core.Path.{_≡_, refl, sym, ap, ap₂, _∙_, subst}
 use mathlib.Core.Bool.{Bool, true, false, cond, not, _&&_, and-eq-true-iff as and-true}
@@ -11,13 +11,13 @@ use mathlib.Core.Logic.{_⊎_, inl, inr}
 use lib.ListN.{length, getD, set, length-set, length-append}
 use lib.Seq.{set-getD, getD-set-same, getD-set-other}
 use lib.Dec.{ltb, eqb}
-use borrow.Author.Tests.{lt-ltb, le-ltb, ltb-true, ltb-false, eq-eqb, eqb-true, not-false}
+use borrow.Author.Tests.{lt-ltb, le-ltb, ltb-true, eq-eqb, eqb-true, not-false}
 use Rattle.units.specs.Replies.{bytesFull, sectionsFull, damaged}
 use Rattle.units.specs.Reply.{accepted, refused}
 use Rattle.records.specs.declared.Assembler.{Assembler}
 use Rattle.records.specs.Record.{opsKind, readSection}
 use Rattle.records.specs.Store.{Store, countsOf, maxBytes, sectionWords, recordWords}
-use Rattle.records.specs.Damage.{unreadable, isSpan, brokenLast, lastBroken, lastSoundness}
+use Rattle.records.specs.Damage.{unreadable, isSpan, lastBroken, lastSoundness}
 use Rattle.records.specs.Sections.{Section, ops}
 use Rattle.records.specs.declared.record.AsmSection.the-variants.{Ops}
 use Rattle.records.specs.declared.record.StoredSection.{StoredSection}
@@ -30,12 +30,12 @@ use Rattle.slices.proofs.Tests.{and-false, cond-true, cond-false, cond-case, cl
 use Rattle.undamaged.specs.View.{Within, unsound}
 use Rattle.undamaged.proofs.Reading.{view, span-ordered}
 use Rattle.undamaged.proofs.Soundness.{last-sound-iff}
-use Rattle.calls.specs.Calls.{BuiltReply, Push, pushOpByte, pushOpBytes, bytesOf, wordsOf, joins, joined, appended, withSection, bytesPass, sectionPasses, noSectionLeft, soundReply, pushReply, pushAfter, ifStored, allReply, eachAfter, allAfter, eachOpByte, callReply, callAfter}
+use Rattle.calls.specs.Calls.{BuiltReply, Push, pushOpByte, pushOpBytes, bytesOf, wordsOf, joins, joined, appended, withSection, bytesPass, sectionPasses, noSectionLeft, pushReply, pushAfter, ifStored, allReply, eachAfter, allAfter, eachOpByte, callReply, callAfter}
 use Rattle.calls.specs.AtOnce.{noByteLeft, atOnceReply, atOnceAfter, opBytesReply, opBytesAfter}
 use Rattle.calls.proofs.Grown.{row-below}
 use Rattle.calls.proofs.Added.{BytesRoom, RowRoom, record-end, row-read}
 use Rattle.calls.proofs.Calls.{bytes-room, row-room}
-use Rattle.calls.proofs.Refusals.{push-answers, refused-same, accepted-added, all-refused, all-next, all-same, all-each}
+use Rattle.calls.proofs.Refusals.{push-answers, accepted-added, all-refused, all-next, all-same, all-each}
 
 -- ---- a store whose last section is Ops
 
@@ -180,7 +180,7 @@ module _ (w : ℕ) (st : Store) (h : 3 ≤ w) (within : Within w st) (new : RowR
 -- ---- each byte in turn
 
 -- either way a section is added, its bytes follow those stored
-with-bytes : (w : ℕ) (s : Section) (st : Store)
+pub with-bytes : (w : ℕ) (s : Section) (st : Store)
     → (withSection w s st .bytes ≡ over (st .bytes) (st .storedBytes) (bytesOf s)) × (withSection w s st .storedBytes ≡ st .storedBytes + length (bytesOf s))
 unfolding withSection
 with-bytes w s st =
@@ -268,7 +268,7 @@ module _ (w : ℕ) (h : 3 ≤ w) (b : ℕ) (bs : List ℕ) (st : Store) (sound :
             after = λ e. ap (eachAfter w (eachOpByte bs)) first-after ∙ rest .after (pass-next ∙ e);
           }
 
--- fewer bytes pass where more fit
+-- where one byte passes the room, more do
 pass-fewer : (b : ℕ) (bs : List ℕ) (st : Store) → bytesPass (ops (b ∷ [])) st ≡ true → bytesPass (ops (b ∷ bs)) st ≡ true
 unfolding bytesPass
 pass-fewer b bs st t =

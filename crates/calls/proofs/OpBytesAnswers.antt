@@ -4,7 +4,6 @@ use Prim.Native.Nat.{ℕ, _≤_}
 use mathlib.Core.Path.{_≡_, refl, sym, ap, _∙_}
 use mathlib.Core.Bool.{Bool, true, false, cond, not, _&&_, _||_}
 use mathlib.Core.List.{List, [], _∷_, _++_, append-assoc}
-use mathlib.Core.Logic.{_↔_, Iff·trans}
 use Rattle.units.specs.Replies.{bytesFull, sectionsFull, damaged}
 use Rattle.units.specs.Reply.{accepted, refused}
 use Rattle.records.specs.Store.{Store, countsOf}
@@ -14,7 +13,7 @@ use Rattle.undamaged.specs.View.{unsound}
 use Rattle.undamaged.proofs.Soundness.{sectionFound}
 use Rattle.calls.specs.Calls.{BuiltReply, pushOpBytes, withSection, bytesPass, sectionPasses, allReply, eachAfter, allAfter, eachOpByte, callReply, callAfter}
 use Rattle.calls.specs.AtOnce.{noByteLeft, atOnceReply}
-use Rattle.calls.specs.Lists.{afterLast, addedAfter, addedTo, addedEach}
+use Rattle.calls.specs.Lists.{addedAfter, addedTo, addedEach}
 use Rattle.calls.specs.Answers.{OpBytesAnswers}
 use Rattle.calls.proofs.Refusals.{Test, test, firstOf, given-number, refused-iff, none-iff, sound-chain, found-iff}
 use Rattle.calls.proofs.OpBytes.{op-bytes-law}

@@ -53,8 +53,8 @@ pub record PushAnswers (w : ℕ) (p : Push) (st : Store) : Type 0 where
       × (counts ≡ countsOf (withSection w (added p) st)))
   pub numbers : (n i k : ℕ) → pushReply w p st ≡ refused n i k → (1 ≤ n) × (n ≤ 6)
 
--- when a run of op bytes b ∷ bs answers what: 6; 4 for the first byte, or for a later one where the first gets its section; 5 for the first
--- byte, which fits; there is no other answer. An empty run is accepted with the counts as they are (`no-op-bytes`, proofs/OpBytesAnswers).
+-- when a run of op bytes b ∷ bs answers what: 6; 4 for the first byte, or for a later one where the first is stored; 5 for the first byte,
+-- which fits; there is no other answer. An empty run is accepted with the counts as they are (`no-op-bytes`, proofs/OpBytesAnswers).
 pub record OpBytesAnswers (w b : ℕ) (bs : List ℕ) (st : Store) : Type 0 where
   pub damaged-iff : (i k : ℕ)
       → (callReply w (pushOpBytes (b ∷ bs)) st ≡ refused damaged i k) ↔ ((lastSoundness w st ≡ Damaged i) × (k ≡ 0))
@@ -71,7 +71,7 @@ pub record OpBytesAnswers (w b : ℕ) (bs : List ℕ) (st : Store) : Type 0 wher
       × (counts ≡ countsOf (withSection w (ops (b ∷ bs)) st)))
   pub numbers : (n i k : ℕ) → callReply w (pushOpBytes (b ∷ bs)) st ≡ refused n i k → (4 ≤ n) × (n ≤ 6)
 
--- calls in turn: those before one are accepted, and it is refused so
+-- calls in turn: those before `call` are accepted, and `call` is refused with this number, section and passes
 pub record FirstRefused (w : ℕ) (ps : List Push) (st : Store) (n i k : ℕ) : Type 0 where
   pub before : List Push
   pub call : Push

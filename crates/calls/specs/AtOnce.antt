@@ -27,12 +27,12 @@ atOnceReply w bs st =
 unfoldable pub atOnceAfter : ℕ → List ℕ → Store → Store
 atOnceAfter w bs st = ifStored (atOnceReply w bs st) (withSection w (ops bs) st) st
 
--- any run: of an empty one nothing is tested
+-- any run; of an empty one nothing is tested
 abbrev pub opBytesReply : ℕ → List ℕ → Store → BuiltReply
 opBytesReply w [] st = accepted (countsOf st)
 opBytesReply w (b ∷ bs) st = atOnceReply w (b ∷ bs) st
 
--- and nothing is added
+-- the store after any run; an empty one adds nothing
 abbrev pub opBytesAfter : ℕ → List ℕ → Store → Store
 opBytesAfter w [] st = st
 opBytesAfter w (b ∷ bs) st = atOnceAfter w (b ∷ bs) st

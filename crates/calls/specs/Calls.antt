@@ -1,4 +1,4 @@
--- Document 01, module 2: the building calls. What each refuses, what it adds, and what an accepted call leaves in counts and slices,
+-- Document 01, module 2, and document 02, request 1: the building calls. What each refuses, what it adds, and what an accepted call leaves in counts and slices,
 -- for every store, damaged or not. The words of a section are a parameter, w. Assumes nothing.
 use Prim.Native.Nat.{ℕ, _+_, _*_, min, _-_}
 use mathlib.Core.List.{List, [], _∷_, map}
@@ -225,9 +225,9 @@ addAfter w s st = ifStored (addReply w s st) (withSection w s st) st
 unfoldable pub pushAfter : ℕ → Push → Store → Store
 pushAfter w p st = ifStored (pushReply w p st) (withSection w (added p) st) st
 
--- ---- all or nothing: calls made in turn, up to the first that is refused
+-- ---- all or nothing (document 02, request 1): calls made in turn, up to the first that is refused
 
--- a refusal ends it; after an accepted call the next answer counts
+-- a refusal is the answer; after an accepted call, the next answer is
 abbrev pub unlessRefused : BuiltReply → BuiltReply → BuiltReply
 unlessRefused (accepted counts) next = next
 unlessRefused (refused n i k) next = refused n i k
@@ -237,7 +237,7 @@ unfoldable pub allReply : ℕ → List Push → Store → BuiltReply
 allReply w [] st = accepted (countsOf st)
 allReply w (p ∷ ps) st = unlessRefused (pushReply w p st) (allReply w ps (pushAfter w p st))
 
--- the store after each of them in turn
+-- the store after each of them in turn; one that is refused leaves it as it is
 unfoldable pub eachAfter : ℕ → List Push → Store → Store
 eachAfter w [] st = st
 eachAfter w (p ∷ ps) st = eachAfter w ps (pushAfter w p st)

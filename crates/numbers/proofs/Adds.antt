@@ -1,15 +1,14 @@
 -- Laws of `addReply`, `pushReply` and runs of op bytes by number, one for each way that the code goes: the answer, the byte slice and the
 -- words.
 -- Assumes nothing.
-use Prim.Native.Nat.{ℕ, _+_, _≤_, min}
+use Prim.Native.Nat.{ℕ, _≤_}
 use native.Mathlib.Omega.{arith}
 use mathlib.Core.Path.{_≡_, refl, sym, _∙_, ap, subst}
 use mathlib.Core.Bool.{true, false}
 use mathlib.Core.List.{List, [], _∷_}
 use lib.ListN.{length}
-use borrow.Author.Tests.{le-ltb, ltb-false}
 use Rattle.units.specs.Replies.{badDepth, badWord, largeMark, bytesFull, sectionsFull, damaged}
-use Rattle.records.specs.Store.{Store, countsOf, maxBytes}
+use Rattle.records.specs.Store.{Store, countsOf}
 use Rattle.records.specs.Damage.{lastSoundness}
 use Rattle.records.specs.Sections.{Section, ops}
 use Rattle.records.specs.declared.damage.Soundness.the-variants.{Sound, Damaged}
@@ -138,23 +137,23 @@ module _ (w : ℕ) (run : List ℕ) (st : Store) where
 
 -- ---- a run of op bytes
 
-abbrev pub Runs : ℕ → List ℕ → Store → ℕ → List ℕ → List ℕ → Type 0
-Runs w run st answer bs ws =
+abbrev pub OpBytes : ℕ → List ℕ → Store → ℕ → List ℕ → List ℕ → Type 0
+OpBytes w run st answer bs ws =
     (answer ≡ builtNumber (callReply w (pushOpBytes run) st))
     × ((bs ≡ callAfter w (pushOpBytes run) st .bytes) × (ws ≡ callAfter w (pushOpBytes run) st .words))
 
 -- an empty one answers the state that it was given, whatever it is
-pub run-empty : (w : ℕ) (run : List ℕ) (state : ℕ) (bytes words : List ℕ) → length run ≡ 0 → Runs w run (storeIn state bytes words) state bytes words
-run-empty w [] state bytes words e =
+pub op-bytes-empty : (w : ℕ) (run : List ℕ) (state : ℕ) (bytes words : List ℕ) → length run ≡ 0 → OpBytes w run (storeIn state bytes words) state bytes words
+op-bytes-empty w [] state bytes words e =
     let none = no-op-bytes w (storeIn state bytes words) in
     let same : state ≡ stateNumber (countsOf (storeIn state bytes words)) = omega arith in
     (same ∙ ap builtNumber (sym (none .0)), (ap (λ (x : Store). x .bytes) (sym (none .1)), ap (λ (x : Store). x .words) (sym (none .1))))
-run-empty w (b ∷ run) state bytes words e = absurd (omega (arith, e))
+op-bytes-empty w (b ∷ run) state bytes words e = absurd (omega (arith, e))
 
 -- any other is judged at once
-pub run-judged : (w : ℕ) (run : List ℕ) (st : Store) (answer : ℕ) (bs ws : List ℕ) → 3 ≤ w → (length run ≡ 0 → ⊥)
-    → AtOnce w run st answer bs ws → Runs w run st answer bs ws
-run-judged w [] st answer bs ws h n a = absurd (n refl)
-run-judged w (b ∷ run) st answer bs ws h n a =
+pub op-bytes-judged : (w : ℕ) (run : List ℕ) (st : Store) (answer : ℕ) (bs ws : List ℕ) → 3 ≤ w → (length run ≡ 0 → ⊥)
+    → AtOnce w run st answer bs ws → OpBytes w run st answer bs ws
+op-bytes-judged w [] st answer bs ws h n a = absurd (n refl)
+op-bytes-judged w (b ∷ run) st answer bs ws h n a =
     let law = op-bytes-law w (b ∷ run) st h in
     rw (law .0, law .1) a

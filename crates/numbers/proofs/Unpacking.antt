@@ -14,6 +14,7 @@ use Rattle.records.specs.Damage.{badCount, wholeSoundness, badCountBuilding, la
 use Rattle.records.specs.declared.damage.Soundness.the-variants.{Damaged}
 use Rattle.calls.specs.Calls.{BuiltReply, Push, pushReply, allReply}
 use Rattle.calls.proofs.Refusals.{push-answers}
+use Rattle.calls.proofs.Runs.{first-refused}
 use Rattle.numbers.specs.Numbers.{packed, numberIn, midIn, lowIn, countsIn, storeIn, stateNumber, replyNumber, replyIn, builtNumber, builtIn}
 use Rattle.numbers.specs.Packs.{Packs, ReplyPacks, CountsPack, BuiltPacks}
 use Rattle.numbers.proofs.Bounds.{push-packs, some-packs}
@@ -52,22 +53,27 @@ stored-state counts h = state-back counts (h .2)
 packed-back : (r : BuiltReply) → BuiltPacks r → builtIn (builtNumber r) ≡ r
 packed-back r h = reply-back stateNumber countsIn CountsPack (λ counts q. (number-back 0 (counts .sections) (counts .bytes) q, stored-state counts q)) r h
 
--- so does every answer that is given
+-- so does every answer to a call that adds to a store
 pub built-back : (w : ℕ) (p : Push) (st : Store) → builtIn (builtNumber (pushReply w p st)) ≡ pushReply w p st
 built-back w p st = packed-back (pushReply w p st) (push-packs w p st)
 
--- and of calls in turn, a run of op bytes among them. An empty run answers the state that it was given (`run-empty`, proofs/Adds): one that
--- is no state, a refusal say, stays what it was.
+-- and to such calls in turn, a run of op bytes that isn't empty among them. An empty run answers the state that it was given, whatever
+-- number that has (`op-bytes-empty`, proofs/Adds).
 pub all-back : (w : ℕ) (p : Push) (ps : List Push) (st : Store) → builtIn (builtNumber (allReply w (p ∷ ps) st)) ≡ allReply w (p ∷ ps) st
 all-back w p ps st = packed-back (allReply w (p ∷ ps) st) (some-packs w p ps st)
 
--- a building call answers no number above 6: 255 is left to a form that names nothing
+-- no such answer has a number above 6: 255 is left to a form that names nothing
+answer-below : (r : BuiltReply) → BuiltPacks r → ((n i k : ℕ) → r ≡ refused n i k → n ≤ 6) → numberIn (builtNumber r) ≤ 6
+answer-below (accepted a) h below = omega (arith, number-back 0 (a .sections) (a .bytes) h)
+answer-below (refused n i k) h below = omega (arith, number-back n k i (h .1), below n i k refl)
+
 pub built-below : (w : ℕ) (p : Push) (st : Store) → numberIn (builtNumber (pushReply w p st)) ≤ 6
-built-below w p st = go (pushReply w p st) refl (push-packs w p st)
-  where
-    go : (r : BuiltReply) → pushReply w p st ≡ r → BuiltPacks r → numberIn (builtNumber r) ≤ 6
-    go (accepted a) e h = omega (arith, number-back 0 (a .sections) (a .bytes) h)
-    go (refused n i k) e h = omega (arith, number-back n k i (h .1), push-answers w p st .numbers n i k e .1)
+built-below w p st = answer-below (pushReply w p st) (push-packs w p st) (λ n i k e. push-answers w p st .numbers n i k e .1)
+
+pub all-below : (w : ℕ) (p : Push) (ps : List Push) (st : Store) → numberIn (builtNumber (allReply w (p ∷ ps) st)) ≤ 6
+all-below w p ps st =
+    answer-below (allReply w (p ∷ ps) st) (some-packs w p ps st)
+    (λ n i k e. let r = first-refused w (p ∷ ps) st n i k e in push-answers w (r .call) _ .numbers n i k (r .refusal) .1)
 
 -- ---- a refusal taken as a state
 

@@ -1,4 +1,5 @@
--- Answers that come back out of one number; every answer that is given does (proofs/Bounds). Assumes nothing.
+-- Answers that come back out of one number; every answer that is given does (proofs/Bounds), but an empty run's, which is its state,
+-- whatever number that has. Assumes nothing.
 use Prim.Native.Nat.{ℕ, _^_, _≤_, _<_}
 use Rattle.units.specs.Reply.{Reply, accepted, refused}
 use Rattle.records.specs.declared.Assembler.{Assembler}

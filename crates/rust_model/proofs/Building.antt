@@ -14,14 +14,15 @@ use Rattle.records.specs.declared.Assembler as records
 use Rattle.records.specs.Store.{Store, wordsPerSection, countsOf, maxBytes, maxSections}
 use Rattle.records.specs.Damage.{lastSoundness}
 use Rattle.records.specs.Sections.{Section, decode}
-use Rattle.calls.specs.Calls.{BuiltReply, Push, pushOpByte, Call, push, pushOpBytes, clear, hasLargeMark, added, bytesOf, joins, joined, appended, withSection, bytesPass, noSectionLeft, sectionPasses, pushReply, pushAfter, allReply, eachAfter, eachOpByte, callReply, callAfter, runReplies, runAfter, emptied}
+use Rattle.calls.specs.Calls.{BuiltReply, Push, pushOpByte, Call, push, pushOpBytes, clear, hasLargeMark, added, bytesOf, joins, withSection, bytesPass, noSectionLeft, sectionPasses, pushReply, pushAfter, allReply, eachAfter, eachOpByte, callReply, callAfter, runReplies, runAfter, emptied}
 use Rattle.calls.specs.Lists.{addedTo}
 use Rattle.undamaged.specs.View.{Undamaged}
 use Rattle.calls.specs.Answers.{IsStored, EveryStored}
 use Rattle.undamaged.specs.View.{unsound}
-use Rattle.slices.proofs.Tests.{false-and, cond-case}
+use Rattle.slices.proofs.Tests.{false-and}
 use Rattle.undamaged.proofs.Soundness.{undamaged-iff, undamaged-last-sound}
 use Rattle.calls.proofs.Added.{BytesRoom, added-apart}
+use Rattle.calls.proofs.OpBytes.{with-bytes}
 use Rattle.calls.proofs.Refusals.{push-answers, accepted-added, all-next, all-first, all-each}
 use Rattle.calls.proofs.Calls.{large-same, call-kept, call-accepted, emptied-undamaged, emptied-decode}
 use Rattle.settling.proofs.Sections.{decode-count}
@@ -39,11 +40,6 @@ use Rattle.rust_model.proofs.Converse.{Comes, push-comes}
 -- as many sections as the Rust's list has
 list-count : (a : Assembler) → length (sectionsOf a) ≡ length (a .sections)
 list-count a = length-map (iterSections a) (seen (a .bytes)) ∙ length-map (a .sections) fromStored
-
--- a section's bytes come to the count, whether it joins or not
-with-bytes : (w : ℕ) (s : Section) (st : Store) → withSection w s st .storedBytes ≡ st .storedBytes + length (bytesOf s)
-unfolding withSection
-with-bytes w s st = cond-case (λ (x : Store). x .storedBytes ≡ st .storedBytes + length (bytesOf s)) (joins w s st) (joined w s st) (appended w s st) (λ t. refl) (λ t. refl)
 
 -- our store and the Rust's are the same, on slices of the lengths lent
 record Same (bs words : List ℕ) (st : Store) (a : Assembler) : Type 0 where
@@ -72,7 +68,7 @@ module _ (bs words : List ℕ) (st : Store) (a a′ : Assembler) (p : Push) (sam
       record {
         undamaged = accepted .undamaged;
         decoded = accepted .list ∙ ap (λ (l : List Section). addedTo l (added p)) (same .decoded) ∙ sym (q .adds .list);
-        count = ap (λ (x : Store). x .storedBytes) (accepted-added wordsPerSection p st counts reply) ∙ with-bytes wordsPerSection (added p) st ∙ bytes-after;
+        count = ap (λ (x : Store). x .storedBytes) (accepted-added wordsPerSection p st counts reply) ∙ with-bytes wordsPerSection (added p) st .1 ∙ bytes-after;
         bytesLent = slices .bytesLength ∙ same .bytesLent;
         wordsLent = slices .wordsLength ∙ same .wordsLent;
         kept = q .adds .kept;

@@ -54,8 +54,8 @@ pub extern "C" fn sadrokki_push_op_byte(
     building::push_op_byte(state, bytes, words, byte)
 }
 
-// Adds a run of op bytes, all or nothing: as `sadrokki_push_op_byte` of each in turn, and the first refusal is the run's. Refusals: 6; 4, no
-// room for one byte; 5; 4, no room for all. An empty run answers the state that it was given, whatever it is.
+// Adds a run of op bytes, all or nothing: as `sadrokki_push_op_byte` of each in turn, and the first refusal is the run's. Refusals: 6;
+// 4, no room for one byte; 5; 4, no room for all. An empty run answers the state that it was given, whatever it is.
 #[no_mangle]
 pub extern "C" fn sadrokki_push_op_bytes(
     state: u64,

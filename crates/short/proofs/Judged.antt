@@ -20,7 +20,7 @@ use Rattle.calls.specs.Alone.{StandsAlone, wordsReply, wordsAfter}
 use Rattle.calls.proofs.Alone.{alone-reply, alone-after}
 use Rattle.numbers.specs.Numbers.{storeIn, builtNumber}
 use Rattle.numbers.specs.Forms.{formOf, formed, isForm, referenceNumber, referenceAfter}
-use Rattle.numbers.proofs.Adds.{Adds, Pushes, Runs, push-adds, once-adds, run-judged}
+use Rattle.numbers.proofs.Adds.{Adds, Pushes, OpBytes, push-adds, once-adds, op-bytes-judged}
 use Rattle.numbers.proofs.Forms.{form-named}
 use Rattle.short.specs.Tried.{TriedSection, TriedWords}
 
@@ -56,19 +56,19 @@ module _ (state : ℕ) (bytes words : List ℕ) where
 
   -- a run of op bytes that was tried: accepted as a whole, it is accepted byte by byte
   module _ (run : List ℕ) {tried : ℕ} {bs ws : List ℕ} (t : TriedSection (ops run) (storeIn state bytes words) tried bs ws) where
-    pub run-done : (length run ≡ 0 → ⊥) → (tried ≡ 0 → ⊥) → Runs wordsPerSection run (storeIn state bytes words) tried bs ws
+    pub op-bytes-done : (length run ≡ 0 → ⊥) → (tried ≡ 0 → ⊥) → OpBytes wordsPerSection run (storeIn state bytes words) tried bs ws
     unfolding bytesPass
-    run-done some h =
+    op-bytes-done some h =
         let st = storeIn state bytes words in
         let tests = add-stored wordsPerSection (ops run) st (t .stored h) in
         let fits = ltb-false (min (length bytes) maxBytes) (state % 2 ^ 32 + length run) (tests .1) in
         let byte : noByteLeft st ≡ false = le-ltb (min (length bytes) maxBytes) (state % 2 ^ 32 + 1) (omega (arith, fits, some)) in
-        run-judged wordsPerSection run st _ _ _ (omega arith) some (once-adds wordsPerSection run st (tests .0) byte (tests .2) _ _ _ (t .done h))
+        op-bytes-judged wordsPerSection run st _ _ _ (omega arith) some (once-adds wordsPerSection run st (tests .0) byte (tests .2) _ _ _ (t .done h))
 
     -- or tried in vain, and then judged
-    pub run-left : tried ≡ 0 → {answer : ℕ} {bs′ ws′ : List ℕ} → Runs wordsPerSection run (storeIn state bs ws) answer bs′ ws′
-        → Runs wordsPerSection run (storeIn state bytes words) answer bs′ ws′
-    run-left z made = rw (t .left z .0, t .left z .1) at made
+    pub op-bytes-left : tried ≡ 0 → {answer : ℕ} {bs′ ws′ : List ℕ} → OpBytes wordsPerSection run (storeIn state bs ws) answer bs′ ws′
+        → OpBytes wordsPerSection run (storeIn state bytes words) answer bs′ ws′
+    op-bytes-left z made = rw (t .left z .0, t .left z .1) at made
 
   -- three words that were tried in vain, and then judged
   pub words-judged : (x : StoredSection) {tried : ℕ} {ws : List ℕ} → TriedWords x (storeIn state bytes words) tried bytes ws → tried ≡ 0

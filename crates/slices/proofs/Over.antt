@@ -1,5 +1,5 @@
 -- Laws of `over`: a list with others written over it from an index on. Assumes nothing.
-use Prim.Native.Nat.{ℕ, zero, suc, _+_, _≤_, _<_}
+use Prim.Native.Nat.{ℕ, suc, _+_, _≤_, _<_}
 use native.Mathlib.Omega.{arith}
 use native.Mathlib.Nat.{add-zero, zero-add, suc-add, add-sub-of-le}
 use native.Mathlib.Numerals.{add-one}

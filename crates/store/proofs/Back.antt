@@ -20,7 +20,7 @@ use Rattle.calls.specs.Calls.{BuiltReply, Push, hasBadDepth, hasBadWord, hasLar
 use Rattle.calls.proofs.OpBytesAnswers.{no-op-bytes}
 use Rattle.numbers.specs.Numbers.{numberIn, lowIn, countsIn, storeIn, stateNumber, builtNumber}
 use Rattle.numbers.specs.Packs.{BuiltPacks}
-use Rattle.numbers.proofs.Adds.{Pushes, Runs}
+use Rattle.numbers.proofs.Adds.{Pushes, OpBytes}
 use Rattle.numbers.proofs.Bounds.{push-packs, some-packs}
 use Rattle.numbers.proofs.Unpacking.{number-back, low-back, state-back, stored-state}
 use Rattle.store.specs.Built.{builtOf}
@@ -126,22 +126,22 @@ module _ (p : Push) (store : Assembler) (bytes words : List ℕ) (state : ℕ) (
 -- ---- a run of op bytes
 
 -- an empty one
-pub run-none : (run : List ℕ) (store : Assembler) (bytes words : List ℕ) → length run ≡ 0
+pub op-bytes-none : (run : List ℕ) (store : Assembler) (bytes words : List ℕ) → length run ≡ 0
     → (accepted store ≡ callReply wordsPerSection (pushOpBytes run) (storeOf store bytes words))
     × ((bytes ≡ callAfter wordsPerSection (pushOpBytes run) (storeOf store bytes words) .bytes) × (words ≡ callAfter wordsPerSection (pushOpBytes run) (storeOf store bytes words) .words))
-run-none [] store bytes words e =
+op-bytes-none [] store bytes words e =
     let none = no-op-bytes wordsPerSection (storeOf store bytes words) in
     (sym (none .0), (ap (λ (x : Store). x .bytes) (sym (none .1)), ap (λ (x : Store). x .words) (sym (none .1))))
-run-none (b ∷ run) store bytes words e = absurd (omega (arith, e))
+op-bytes-none (b ∷ run) store bytes words e = absurd (omega (arith, e))
 
 -- any other, from its number
 module _ (store : Assembler) (bytes words : List ℕ) (state : ℕ) (is : state ≡ stateNumber store) (fits : store .bytes < 2 ^ 32) where
-  pub run-by-number : (run : List ℕ) {reply : BuiltReply} {answer : ℕ} {bytes′ words′ : List ℕ} → (length run ≡ 0 → ⊥) → reply ≡ builtOf answer
-      → Runs wordsPerSection run (storeIn state bytes words) answer bytes′ words′
+  pub op-bytes-by-number : (run : List ℕ) {reply : BuiltReply} {answer : ℕ} {bytes′ words′ : List ℕ} → (length run ≡ 0 → ⊥) → reply ≡ builtOf answer
+      → OpBytes wordsPerSection run (storeIn state bytes words) answer bytes′ words′
       → (reply ≡ callReply wordsPerSection (pushOpBytes run) (storeOf store bytes words))
       × ((bytes′ ≡ callAfter wordsPerSection (pushOpBytes run) (storeOf store bytes words) .bytes)
       × (words′ ≡ callAfter wordsPerSection (pushOpBytes run) (storeOf store bytes words) .words))
-  run-by-number [] some e all = absurd (some refl)
-  run-by-number (b ∷ run) some e all =
+  op-bytes-by-number [] some e all = absurd (some refl)
+  op-bytes-by-number (b ∷ run) some e all =
       rw (sym (same-store store bytes words state is fits))
       (e ∙ ap builtOf (all .0) ∙ all-back wordsPerSection (pushOpByte b) (eachOpByte run) (storeIn state bytes words), all .1)

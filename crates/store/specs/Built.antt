@@ -15,7 +15,8 @@ builtReply (Stored counts) = accepted counts
 builtReply (Refused r) = refusalReply r
 
 -- the reply to a building call that a number is: accepted where the number is 0; 6 has a section, 1 to 5 have none, and none has passes.
--- Building answers stop at 6 (`built-below`, numbers Unpacking), so what is said of a number above 6 is of no answer.
+-- Building answers stop at 6 (`built-below`, `all-below`, numbers Unpacking), so what is said of a number above 6 is of no answer that is
+-- read so: an empty run, whose answer is its state, isn't.
 unfoldable pub builtOf : ℕ → BuiltReply
 builtOf answer =
     cond (eqb (numberIn answer) 0) (accepted (countsIn answer))

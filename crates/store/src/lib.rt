@@ -1,6 +1,6 @@
 // Document 01, module 2: the building calls. Each takes the store's counts by value and is lent the byte slice and the slice of words.
-// It answers the new counts, or a refusal with nothing changed. Refusals are tested in the order 1, 2, 3, 6, 4, 5. The work is done by
-// number (`building`); here numbers become counts and refusals.
+// It answers the new counts, or a refusal with nothing changed. Refusals are tested in the order 1, 2, 3, 6, 4, 5, and byte by byte of a
+// run of op bytes. The work is done by number (`building`); here numbers become counts and refusals.
 use numbers::NUMBER;
 use numbers::SECTION;
 use numbers::counts_in;
@@ -64,7 +64,7 @@ pub fn push_op_bytes(store: Assembler, bytes: &mut [u8], words: &mut [u32], run:
     ensures words { λ _. ⌜ now (words .exit) ≡ callAfter wordsPerSection (pushOpBytes (now (run .entry)))
         (storeOf store (now (bytes .entry)) (now (words .entry))) .words ⌝ }
 {
-    // Counts that are no state's would not come back out of their number.
+    // Not by number: counts of 2^24 sections and more would be read as a refusal.
     if run.len() == 0 {
         return Built::Stored(store);
     }

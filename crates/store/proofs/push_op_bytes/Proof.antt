@@ -4,7 +4,7 @@ use borrow.Author.Needs.{needs}
 use native.Mathlib.Omega.{arith}
 use Prim.Native.Nat.{_^_, _<_}
 use denote.Ref.{now}
-use Rattle.store.proofs.Back.{run-none, run-by-number}
+use Rattle.store.proofs.Back.{op-bytes-none, op-bytes-by-number}
 use Rattle.store.proofs.push_op_bytes.Statement.{statement}
 use Rattle.store.proofs.push_op_bytes.Tie as tie
 
@@ -15,7 +15,7 @@ small s = omega arith
 returns : tie.Need-returns
 returns c =
     let a = c .before .before .before .before .args in
-    run-none (now (a .run)) (a .store) (now (a .bytes)) (now (a .words)) (c .if1 .taken)
+    op-bytes-none (now (a .run)) (a .store) (now (a .bytes)) (now (a .words)) (c .if1 .taken)
 
 state-of-requires : tie.Need-state-of-requires
 state-of-requires c κs = search needs
@@ -39,7 +39,7 @@ returns-2 c =
     let some = counted .before in
     let start = some .before .before .before .before in
     let a = start .args in
-    run-by-number (a .store) (now (a .bytes)) (now (a .words)) _ (counted .state-of .ensures) (small start) (now (a .run)) (some .if1 .left)
+    op-bytes-by-number (a .store) (now (a .bytes)) (now (a .words)) _ (counted .state-of .ensures) (small start) (now (a .run)) (some .if1 .left)
     (c .built-of .ensures) (called .push-op-bytes .ensures)
 
 pub push-op-bytes-spec : {M : Type 1} → statement M

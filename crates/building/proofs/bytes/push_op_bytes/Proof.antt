@@ -4,8 +4,8 @@ use borrow.Author.Needs.{needs}
 use native.Mathlib.Omega.{arith}
 use denote.Ref.{now}
 use Rattle.records.specs.Store.{wordsPerSection}
-use Rattle.numbers.proofs.Adds.{run-empty, run-judged}
-use Rattle.short.proofs.Judged.{run-done, run-left}
+use Rattle.numbers.proofs.Adds.{op-bytes-empty, op-bytes-judged}
+use Rattle.short.proofs.Judged.{op-bytes-done, op-bytes-left}
 use Rattle.building.proofs.bytes.push_op_bytes.Statement.{statement}
 use Rattle.building.proofs.bytes.push_op_bytes.Tie as tie
 
@@ -26,7 +26,7 @@ begun c = c .before .before .before .before .before
 returns : tie.Need-returns
 returns c =
     let a = c .before .before .before .before .args in
-    run-empty wordsPerSection (now (a .run)) (a .state) (now (a .bytes)) (now (a .words)) (c .if1 .taken)
+    op-bytes-empty wordsPerSection (now (a .run)) (a .state) (now (a .bytes)) (now (a .words)) (c .if1 .taken)
 
 extend-ops-requires : tie.Need-extend-ops-requires
 extend-ops-requires c κs = search needs
@@ -42,7 +42,7 @@ returns-2 c =
     let t = c .before .before .before .before .before in
     let some = not-empty t in
     let a = entry some .args in
-    run-done (a .state) (now (a .bytes)) (now (a .words)) (now (a .run)) (t .extend-ops .ensures) (some .if1 .left) (c .if2 .taken)
+    op-bytes-done (a .state) (now (a .bytes)) (now (a .words)) (now (a .run)) (t .extend-ops .ensures) (some .if1 .left) (c .if2 .taken)
 
 begin-ops-requires : tie.Need-begin-ops-requires
 begin-ops-requires c κs = search needs
@@ -60,8 +60,8 @@ returns-3 c =
     let t = extended left in
     let some = not-empty t in
     let a = entry some .args in
-    run-left (a .state) (now (a .bytes)) (now (a .words)) (now (a .run)) (t .extend-ops .ensures) (left .if2 .left)
-    (run-done (a .state) _ _ (now (a .run)) (b .begin-ops .ensures) (some .if1 .left) (c .if3 .taken))
+    op-bytes-left (a .state) (now (a .bytes)) (now (a .words)) (now (a .run)) (t .extend-ops .ensures) (left .if2 .left)
+    (op-bytes-done (a .state) _ _ (now (a .run)) (b .begin-ops .ensures) (some .if1 .left) (c .if3 .taken))
 
 add-run-requires : tie.Need-add-run-requires
 add-run-requires c κs = search needs
@@ -81,9 +81,9 @@ returns-4 c =
     let t = extended left in
     let some = not-empty t in
     let a = entry some .args in
-    run-left (a .state) (now (a .bytes)) (now (a .words)) (now (a .run)) (t .extend-ops .ensures) (left .if2 .left)
-    (run-left (a .state) _ _ (now (a .run)) (b .begin-ops .ensures) (last .if3 .left)
-    (run-judged wordsPerSection (now (a .run)) _ _ _ _ (omega arith) (some .if1 .left) (judged .add-run .ensures)))
+    op-bytes-left (a .state) (now (a .bytes)) (now (a .words)) (now (a .run)) (t .extend-ops .ensures) (left .if2 .left)
+    (op-bytes-left (a .state) _ _ (now (a .run)) (b .begin-ops .ensures) (last .if3 .left)
+    (op-bytes-judged wordsPerSection (now (a .run)) _ _ _ _ (omega arith) (some .if1 .left) (judged .add-run .ensures)))
 
 pub push-op-bytes-spec : {M : Type 1} → statement M
 push-op-bytes-spec =
