@@ -5,3 +5,4 @@ pub mod Exchanges
 pub mod TightExamples
 pub mod Line11
 pub mod Line11Plain
+pub mod OpByteRuns
