@@ -98,7 +98,7 @@ after-next (reference r) [] bs cs = refl
 after-next x (y ∷ ys) bs cs = behind x y ys bs (ops cs) ∙ ap (λ (l : List Section). x ∷ l) (after-next y ys bs cs)
 
 -- op bytes after op bytes are both at once
-ops-next : (l : List Section) (bs cs : List ℕ) → addedTo (addedTo l (ops bs)) (ops cs) ≡ addedTo l (ops (bs ++ cs))
+pub ops-next : (l : List Section) (bs cs : List ℕ) → addedTo (addedTo l (ops bs)) (ops cs) ≡ addedTo l (ops (bs ++ cs))
 unfolding addedTo addedAfter
 ops-next [] bs cs = refl
 ops-next (x ∷ xs) bs cs = after-next x xs bs cs

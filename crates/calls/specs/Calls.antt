@@ -1,5 +1,5 @@
--- Document 01, module 2, and document 02, request 1: the building calls. What each refuses, what it adds, and what an accepted call leaves in counts and slices,
--- for every store, damaged or not. The words of a section are a parameter, w. Assumes nothing.
+-- Document 01, module 2, and document 02, request 1: the building calls. What each refuses, what it adds, and what an accepted call
+-- leaves in counts and slices, for every store, damaged or not. The words of a section are a parameter, w. Assumes nothing.
 use Prim.Native.Nat.{ℕ, _+_, _*_, min, _-_}
 use mathlib.Core.List.{List, [], _∷_, map}
 use mathlib.Core.Bool.{Bool, false, cond, not, _&&_, _||_}

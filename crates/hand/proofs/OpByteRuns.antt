@@ -3,7 +3,7 @@ use Prim.Native.Nat.{ℕ}
 use mathlib.Core.Path.{_≡_, refl}
 use mathlib.Core.List.{List, [], _∷_}
 use Rattle.units.specs.Reply.{accepted, refused}
-use Rattle.records.specs.Record.{readSection, readMark, readSpan}
+use Rattle.records.specs.Record.{readSection, readSpan}
 use Rattle.records.specs.Store.{Store, wordsPerSection, badCounts}
 use Rattle.records.specs.Damage.{badCountBuilding, lastBroken, lastSoundness}
 use Rattle.calls.specs.Calls.{BuiltReply, pushOpBytes, joins, withSection, bytesPass, noSectionLeft, sectionPasses, roomReply, addReply, pushReply, pushAfter, allReply, eachAfter, allAfter, callReply, callAfter}

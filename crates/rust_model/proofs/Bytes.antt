@@ -8,6 +8,7 @@ use lib.ListN.{length}
 use lib.Dec.{eqb}
 use Rattle.records.specs.Sections.{Section, mark, ops, bytes, reference}
 use Rattle.calls.specs.Lists.{addedAfter, addedTo}
+use Rattle.calls.proofs.OpBytesAnswers.{ops-next}
 use Rattle.rust_model.specs.Run.{Run, done, panic, andThen, Build, lenIdx, pushed}
 use Rattle.rust_model.specs.Building.{Span, StoredAsmSection, Ops, Data, Assembler, Last, extendOps, newOps, opByteAfter, opByte, opBytes, longerData, extendData, newData, dataAfter, pushedData}
 use Rattle.rust_model.specs.Demand2.{sectionsOf}
@@ -60,28 +61,6 @@ op-byte a a′ b k r = op-byte-after a a′ b (last-is (a .sections)) k r
 
 -- ---- op bytes after op bytes
 
--- they are one section
-ops-front : (x y : Section) (ys : List Section) (bs : List ℕ) (s : Section) → addedTo (x ∷ addedAfter y ys (ops bs)) s ≡ x ∷ addedTo (addedAfter y ys (ops bs)) s
-unfolding addedTo addedAfter
-ops-front x (mark m) [] bs s = refl
-ops-front x (ops new) [] bs s = refl
-ops-front x (bytes new) [] bs s = refl
-ops-front x (reference r) [] bs s = refl
-ops-front x y (z ∷ zs) bs s = refl
-
-ops-after : (x : Section) (xs : List Section) (bs cs : List ℕ) → addedTo (addedAfter x xs (ops bs)) (ops cs) ≡ addedAfter x xs (ops (bs ++ cs))
-unfolding addedTo addedAfter
-ops-after (mark m) [] bs cs = refl
-ops-after (ops new) [] bs cs = ap (λ (l : List ℕ). ops l ∷ []) (append-assoc new bs cs)
-ops-after (bytes new) [] bs cs = refl
-ops-after (reference r) [] bs cs = refl
-ops-after x (y ∷ ys) bs cs = ops-front x y ys bs (ops cs) ∙ ap (λ (l : List Section). x ∷ l) (ops-after y ys bs cs)
-
-ops-join : (l : List Section) (bs cs : List ℕ) → addedTo (addedTo l (ops bs)) (ops cs) ≡ addedTo l (ops (bs ++ cs))
-unfolding addedTo addedAfter
-ops-join [] bs cs = refl
-ops-join (x ∷ xs) bs cs = ops-after x xs bs cs
-
 -- a list with op bytes isn't shorter
 pub ops-longer : (l : List Section) (bs : List ℕ) → length l ≤ length (addedTo l (ops bs))
 unfolding addedTo addedAfter
@@ -96,7 +75,7 @@ adds-join : (a b c : Assembler) (bs cs : List ℕ) → Adds (ops bs) a b → Add
 adds-join a b c bs cs p q =
     record {
       bytesAdded = q .bytesAdded ∙ ap (λ (l : List ℕ). l ++ cs) (p .bytesAdded) ∙ append-assoc (a .bytes) bs cs;
-      list = q .list ∙ ap (λ (l : List Section). addedTo l (ops cs)) (p .list) ∙ ops-join (sectionsOf a) bs cs;
+      list = q .list ∙ ap (λ (l : List Section). addedTo l (ops cs)) (p .list) ∙ ops-next (sectionsOf a) bs cs;
       kept = q .kept;
     }
 
