@@ -39,9 +39,6 @@ CASES: list[tuple] = [
     (5, "push_mark(4294967295)", [mark(TOP)], LARGE, ["panic: Index overflow: value exceeds maximum representable index"]),
     (6, "one op byte, a byte slice of length 0", [op(0)], ["refused 4 at 0 passes 0"], ["stored 1 1"], dict(bytes=0)),
     (6, "one mark, a word slice of length 2", [mark(0)], ["refused 5 at 0 passes 0"], ["stored 0 1"], dict(words=2)),
-    (6, "a run of 2 op bytes, a byte slice of length 1, and the byte then", [run(2, RISING), (24, 0, 1)],
-     ["refused 4 at 0 passes 0", "bytes a5"], ["stored 2 1", "bytes 00"], dict(bytes=1)),
-    (6, "mark 0, a run of 2 op bytes, slices of one byte and three words", [mark(0), run(2, RISING)], ["refused 5 at 0 passes 0"], ["stored 2 2"], dict(bytes=1, words=3)),
     (7, "counts set to 1 and 0, then a mark", [(18, 1, 0), mark(0)], ["set", "refused 6 at 0 passes 0"], ["?", "stored 0 1"]),
     (8, "mark 0, a table of length 0", [mark(0), ASSEMBLE], ["refused 7 at 0 passes 0"], ["length 0 passes ?"], dict(table=0)),
     (8, "mark 128: the original's table then has length 256", [mark(128), ASSEMBLE, table_of(255, 257)],
@@ -74,6 +71,9 @@ CASES: list[tuple] = [
     (16, "raw ref 0 size 1, 255 data bytes, mark 0", [direct(0, 1), *data(255), mark(0), ASSEMBLE, table_of(0, 1)],
      ["refused 10 at 0 passes 1", "table 00000000"], ["refused 10 at 0 passes ?", "table ????????"]),
     (17, "op 5b, landing at offset 0", [op(0x5B), ASSEMBLE, (22, 0, 1)], ["length 1 passes 1", "yes"], ["length 1 passes ?", "?"]),
+    (18, "a run of 2 op bytes, a byte slice of length 1, and the byte then", [run(2, RISING), (24, 0, 1)],
+     ["refused 4 at 0 passes 0", "bytes a5"], ["stored 2 1", "bytes 00"], dict(bytes=1)),
+    (18, "mark 0, a run of 2 op bytes, slices of one byte and three words", [mark(0), run(2, RISING)], ["refused 5 at 0 passes 0"], ["stored 2 2"], dict(bytes=1, words=3)),
     (0, "line 11, N = 1,022", [*line_11(1022, 61449), ASSEMBLE], ["length 66558 passes 1024"], ["length 66558 passes ?"]),
 ]  # fmt: skip
 
