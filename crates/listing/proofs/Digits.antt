@@ -1,7 +1,8 @@
--- Laws of decimal numbers: the digits read back to the number, the first is 0 only for 0, and one law for each way that the code goes.
--- Assumes nothing.
-use Prim.Native.Nat.{ℕ, zero, suc, _+_, _*_, _-_, _/_, _%_, _≤_, _<_}
+-- Laws of decimal numbers: the digits read back to the number, the first is 0 only for 0, how many there can be, and one law for each
+-- way that the code goes. Assumes nothing.
+use Prim.Native.Nat.{ℕ, zero, suc, _+_, _*_, _-_, _/_, _%_, _^_, _≤_, _<_}
 use native.Mathlib.Omega.{arith}
+use native.Mathlib.Nat.{pow-suc}
 use mathlib.Core.Path.{_≡_, refl, sym, ap, _∙_}
 use mathlib.Core.Bool.{Bool, true, false}
 use mathlib.Core.List.{List, [], _∷_, _++_}
@@ -65,6 +66,23 @@ pub decimal-length : (v : ℕ) → length (decimal v) ≤ suc v
 unfolding decimal
 decimal-length v =
     digits-by (λ (n : ℕ) (ds : List ℕ). length ds ≤ suc n) (λ n h. omega arith) (λ n ds h l. rw length-append (omega arith)) (suc v) v (omega arith)
+
+-- a number below the next power of 10
+most-next : (n v : ℕ) → v < 10 ^ suc n → length (decimal v) ≤ suc n
+most-next zero v h = omega (arith, ap length (decimal-small v (omega arith)))
+most-next (suc n) v h = go (ltb v 10) refl (most-next n (v / 10))
+  where
+    go : (b : Bool) → ltb v 10 ≡ b → (v / 10 < 10 ^ suc n → length (decimal (v / 10)) ≤ suc n) → length (decimal v) ≤ suc (suc n)
+    go true e rest = omega (arith, ap length (decimal-small v (ltb-true v 10 e)))
+    go false e rest =
+        let more = decimal-more v (ltb-false v 10 e) in
+        let others : length (decimal (v / 10)) ≤ suc n = rest (omega (arith, pow-suc 10 (suc n))) in
+        omega (arith, simp length-append at (ap length more))
+
+-- a number below 10 ^ n has at most n digits, where n is 1 or more
+pub decimal-most : (n v : ℕ) → 0 < n → v < 10 ^ n → length (decimal v) ≤ n
+decimal-most zero v some h = absurd (omega arith)
+decimal-most (suc n) v some h = most-next n v h
 
 -- ---- what makes them decimal numbers
 

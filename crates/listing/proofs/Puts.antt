@@ -1,14 +1,16 @@
--- Laws of putting text into a slice: two texts in a row are one, and a loop's walk, of which what is left equals the whole.
--- Assumes nothing.
-use Prim.Native.Nat.{ℕ, suc, _+_, _-_, _≤_}
+-- Laws of putting text into a slice: two texts in a row are one; a loop's walk, of which what is left equals the whole; and a text that
+-- is put whole or not at all. Assumes nothing.
+use Prim.Native.Nat.{ℕ, suc, _+_, _-_, _≤_, _<_}
 use native.Mathlib.Omega.{arith}
 use native.Mathlib.Nat.{add-zero, add-suc, suc-add}
-use mathlib.Core.Path.{_≡_, refl, sym, ap, _∙_}
-use mathlib.Core.List.{List, [], _∷_, _++_}
-use lib.ListN.{length, set, length-append}
-use lib.Seq.{sets, length-sets, set-out}
+use mathlib.Core.Path.{_≡_, refl, sym, ap, _∙_, subst}
+use mathlib.Core.List.{List, [], _∷_, _++_, append-assoc}
+use lib.ListN.{length, take, drop, set, length-append}
+use lib.Seq.{sets, sets-eq, length-sets, set-out}
 use borrow.Rule.Slice.PartMut.{midOf, mid-len, putMid, put-same}
 use denote.Ref.{now, at-last}
+use Rattle.slices.specs.Over.{overIfRoom}
+use Rattle.slices.proofs.Over.{has-room, no-room}
 use Rattle.listing.specs.Put.{Put, Room}
 use Rattle.listing.specs.Sink.{added}
 use Rattle.listing.specs.declared.sink.TextSink.{TextSink}
@@ -104,3 +106,22 @@ put-end t {m} {r} {x} p =
       omega (arith, p .count),
       ap (putMid n (n - n) t) (p .text ∙ sets-out x (midOf n (n - n) t) 0 none) ∙ put-same n (n - n) t,
     )
+
+-- ---- all or nothing
+
+-- a text that is put where there is room for it is written over what stood there
+pub put-room : {t m : List ℕ} {at r : ℕ} {x : List ℕ} → Put t at x r m → at + length x ≤ length t → m ≡ overIfRoom t at x
+put-room {t} {m} {at} {r} {x} p h =
+    p .text ∙ sets-eq x t at h ∙ append-assoc (take at t) x (drop (at + length x) t) ∙ sym (has-room t at x h)
+
+-- a text x that was counted first: n is its length as the code has it, and t is as it was once that is known
+module _ (t : List ℕ) (at : ℕ) (x : List ℕ) {n : ℕ} {then : List ℕ} (counted : (n ≡ length x) × (then ≡ t)) where
+  -- there is no room
+  pub counted-short : length t < at + n → (n ≡ length x) × (then ≡ overIfRoom t at x)
+  counted-short h = (counted .0, counted .1 ∙ sym (no-room t at x (omega (arith, counted .0))))
+
+  -- it fits, and is put
+  pub counted-put : {m : List ℕ} {r : ℕ} → at + n ≤ length t → Put then at x r m → (n ≡ length x) × (m ≡ overIfRoom t at x)
+  counted-put {m} {r} h p =
+      let put : Put t at x r m = subst (λ (l : List ℕ). Put l at x r m) (counted .1) p in
+      (counted .0, put-room put (omega (arith, counted .0)))

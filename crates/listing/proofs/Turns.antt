@@ -59,6 +59,10 @@ hex-count at bs start end k = omega (arith, hex-length (slice start end bs), len
 pub hex-fits : (at : ℕ) (bs : List ℕ) (start end : ℕ) → end ≤ length bs → Room at (hex (slice start end bs)) → at + 2 * (end - start) < 2 ^ 64
 hex-fits at bs start end k room = omega (arith, hex-count at bs start end k)
 
+-- all of them
+pub hex-all : (bs : List ℕ) → hex (slice 0 (length bs) bs) ≡ hex bs
+hex-all bs = ap hex (take-all (length bs) bs (omega arith))
+
 -- past the slice's end they are counted alone
 pub hex-past : {t : List ℕ} {at : ℕ} (bs : List ℕ) (start end : ℕ) → end ≤ length bs → length t ≤ at → Put t at (hex (slice start end bs)) (at + 2 * (end - start)) t
 hex-past {t} {at} bs start end k h =

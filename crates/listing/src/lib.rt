@@ -1,9 +1,10 @@
-// Document 01, module 5: the listing of a store (display.rs). `write_asm` is the one public function.
+// Document 01, module 5: the listing of a store (display.rs), `write_asm`. Two of its writers are public beside it, in `text`: bytes in
+// hex and a number in decimal, over a part of a lent text.
 mod lines;
 mod ops;
 mod sections;
 mod sink;
-mod text;
+pub mod text;
 
 use records::Assembler;
 use records::Soundness;

@@ -1,10 +1,11 @@
 // The covered core of the text sink: bytes, hex and decimal numbers put into a slice from a place on. Each answers the place after
-// what it put. Bytes past the slice's end are counted and not stored.
+// what it put. Bytes past the slice's end are counted and not stored. The two public writers at the end put all or nothing.
 ghost use mathlib.Core.Path.{_≡_};
 ghost use mathlib.Core.List.{[], _∷_};
 ghost use Prim.Native.Nat.{_+_, _≤_, _<_, _^_};
 ghost use lib.ListN.{length};
 ghost use lib.Seq.{slice};
+ghost use Rattle.slices.specs.Over.{overIfRoom};
 ghost use Rattle.listing.specs.Put.{Put, Room};
 ghost use Rattle.listing.specs.Decimal.{decimal};
 ghost use Rattle.listing.specs.Listing.{hexDigit, hexByte, hex};
@@ -85,4 +86,34 @@ pub(crate) fn put_decimal(text: &mut [u8], at: usize, value: u32) -> usize
     }
     let next = put_decimal(text, at, value / 10);
     put_byte(text, next, b'0' + (value % 10) as u8)
+}
+
+// Bytes in hex over a text from a place on, if there is room for them; else nothing changes.
+pub fn write_hex(text: &mut [u8], at: usize, bytes: &[u8])
+    ensures { λ _. ⌜ now (text .exit) ≡ overIfRoom (now (text .entry)) at (hex (now (bytes .entry))) ⌝ }
+{
+    if text.len() < at {
+        return;
+    }
+    if (text.len() - at) / 2 < bytes.len() {
+        return;
+    }
+    put_hex(text, at, bytes, 0, bytes.len());
+}
+
+// A number in decimal over a text from a place on, if there is room for it; else nothing changes. Answers the count of its digits.
+pub fn write_decimal(text: &mut [u8], at: usize, value: u32) -> usize
+    ensures digits { λ r. ⌜ r ≡ length (decimal value) ⌝ }
+    ensures text { λ _. ⌜ now (text .exit) ≡ overIfRoom (now (text .entry)) at (decimal value) ⌝ }
+{
+    let end = text.len();
+    let digits = put_decimal(&mut text[end..], 0, value);
+    if end < at {
+        return digits;
+    }
+    if end - at < digits {
+        return digits;
+    }
+    put_decimal(text, at, value);
+    digits
 }
