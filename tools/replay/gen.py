@@ -14,6 +14,70 @@ MARKS = [0, 1, 2, 7, 255, 1048574, 1048575, 1048576, 2**24, 2**31, TOP]
 LIMITS = (131072, 65536, 16384, 262144, 1048576)
 
 
+def job(pool, *steps):
+    """A job's bytes."""
+    return struct.pack(">I", len(pool)) + pool + struct.pack(">I", len(steps)) + b"".join(struct.pack(">BII", *step) for step in steps)
+
+
+def parts(pool, n, first=0):
+    """The steps of a job that store n data bytes, parts of the pool that begin at `first`."""
+    whole, rest = divmod(n, len(pool) - first)
+    return [(3, first, len(pool))] * whole + ([(3, first, first + rest)] if rest else [])
+
+
+def random_job(r):
+    """Marks mostly placed once, references of every form, data that brings an offset near the boundary of two widths or the store near
+    its end; now and then a large mark, or a field at its limit or past it."""
+    if r.random() < 0.02:  # unsettled, with the data's length changed in one of three
+        pool = bytes(252 + r.choice([0, 0, 1]))
+        return job(pool, *((kind, 0, len(pool)) if kind == 3 else (kind, a, b) for kind, a, b in r.choice(RESTLESS)))
+    pool = r.randbytes(r.choice([0, 1, 2, 5, 40, 260, 700, 700]))
+    some = lambda n: parts(pool, max(0, n), r.randrange(len(pool)) if n < 8 else 0) if pool else []
+    k, loose = r.choice([1, 2, 3, 5, 9]), r.choice([0, 0, 0.05, 0.3])  # how often a set size or a delta's order is left to chance
+    form = lambda: r.choice([0, 8, 8, 2, 3, 4, 10, 11, 12, *([1, 9] if r.random() < 0.2 + loose else [])])
+    name = {m: m if r.random() < 0.97 else r.choice([16382, 16383, 16384, 1048575]) for m in range(k)}
+    blocks = [[(1, m, 0)] for m in range(k) if r.random() < 0.98]
+    blocks += [[(1, r.randrange(k), 0)] for _ in range(2) if r.random() < 0.06]
+    for _ in range(r.choice([0, 1, 3, 6, 20])):
+        x = r.random()
+        if x < 0.25:
+            blocks.append(some(r.choice([0, 1, 2, 40, 250]) + r.randint(-6, 3)) if x < 0.22 else [(3, *[r.randint(0, len(pool))] * 2)])
+        elif x < 0.45:
+            blocks.append([(2, r.choice([0x5B, r.randint(0, 255)]), 0) for _ in range(r.choice([1, 1, 2, 9]))])
+        elif x < 0.7:
+            blocks.append([(4, r.randrange(k), form())])
+        else:
+            blocks.append([(32 + form(), r.randrange(k), r.randrange(k))])
+    r.shuffle(blocks)
+    if len(pool) > 200 and r.random() < 0.6:
+        most = r.choice([256, 256, 256, 65536])
+        i = r.randint(0, len(blocks)) if most == 256 or r.random() < 0.5 else len(blocks)
+        least = sum(b - a if kind == 3 else kind != 1 for block in blocks[:i] for kind, a, b in block)
+        blocks.insert(r.randint(0, i), some(most - least + r.choice([-9, -2, -1, 0, 0, 0, 1, r.randint(-40, 2)])))
+    steps = [step for block in blocks for step in block]
+    at = {a: i for i, (kind, a, _) in enumerate(steps) if kind == 1}
+    for i, (kind, a, b) in enumerate(steps):
+        if kind >= 32 and r.random() >= loose:
+            a, b = sorted((a, b), key=lambda m: at.get(m, 0))
+        steps[i] = kind, a if kind in (2, 3) else name[a], b if kind < 32 else name[b]
+    if steps and r.random() < 0.12:  # one number of one step
+        i, n = r.randrange(len(steps)), len(pool)
+        kind, *numbers = steps[i]
+        numbers[r.randint(0, 1)] = r.choice([0, 1, 4, 5, 7, 8, 12, 13, 255, 256, n, n + 1, k, 16383, 16384, 1048575, 1048576, TOP])
+        steps[i] = kind, *numbers
+    if steps and r.random() < 0.03:
+        steps[r.randrange(len(steps))] = r.choice([0, 1, 2, 3, 4, 5, 31, 32, 36, 37, 39, 40, 44, 45, 255]), r.randint(0, 1), 0
+    return job(pool, *steps)
+
+
+def damaged(r, whole):
+    """The job with a byte changed, cut out or added, or the end cut off."""
+    i = r.choice([r.randint(0, len(whole)), r.randint(0, min(20, len(whole))), len(whole)])
+    byte = bytes([r.choice([0, 1, 255, r.randint(0, 255)])])
+    changed, fewer, more = whole[:i] + byte + whole[i + 1 :], whole[:i] + whole[i + 1 :], whole[:i] + byte + whole[i:]
+    return r.choice([changed, changed, fewer, more, whole[:i]])
+
+
 class Script:
     def __init__(self, seed):
         self.r = random.Random(seed)
@@ -308,6 +372,16 @@ class Script:
             self.add(21)
         self.show()
 
+    def job(self):
+        """A job in the pool, damaged or not, with some of the script's own slices shown before and after it."""
+        r, at = self.r, len(self.pool)
+        whole = random_job(r)
+        self.pool += damaged(r, whole) if r.random() < 0.3 else whole
+        self.show()
+        shown = self.steps[-1]
+        self.add(30, *((at, len(self.pool)) if r.random() < 0.95 else (self.near(at), self.near(len(self.pool)))))
+        self.steps.append(shown)
+
     def odd(self):
         r = self.r
         self.add(r.choice([r.randint(13, 15), 19, 20, 21, 22, 23, 26, 27, 28, 29, 30, 31, 37, 38, 39, 45, 64, 255, r.randint(0, 255)]), self.number(), self.number())
@@ -329,8 +403,11 @@ class Script:
         mixes = [[8, 0, 1, 0, 1, 0, 1, 0, 0, 0, 0], [6, 3, 2, 1, 2, 1, 2, 1, 0, 0, 0], [3, 5, 2, 1, 2, 1, 2, 3, 0, 0, 0], [8, 1, 1, 1, 1, 1, 1, 1, 0, 0, 0], [1, 1, 1, 0, 1, 1, 1, 1, 5, 0, 0]]
         ways = [1, 1, 1, 0, 1, 1, 1, 1, 1, 12, r.choice([0, 0, 1])] if self.coding else r.choice(mixes)
         many = r.choice([1, 3, 10]) if sum(ways[8:]) else r.choice([3, 20, 60, 150])
+        jobs = r.choice([0, 0.05, 0.3])
         for _ in range(many):
             way = r.choices([self.build, self.damage, self.show, self.odd, self.listing, self.landing, self.assembly, self.runs, self.good_store, self.code, self.restless], ways)[0]
+            if r.random() < jobs:
+                self.job()
             way()
             x = r.random()
             if x < 0.02:

@@ -1,7 +1,7 @@
 #!/usr/bin/env python3
 """An independent model of `replay`. Reads a script on standard input, prints what replay must print.
-Written from REPLAY.md, document 01 (modules 1 to 6, Replies), CR 1 of document 02, READINGS 1 to 25, 30 and 31, and op.rs for the
-names; it shares nothing with the Rattle code."""
+Written from REPLAY.md, document 01 (modules 1 to 6, Replies), CR 1 and 2 of document 02, READINGS 1 to 25 and 30 to 33, and op.rs for
+the names; it shares nothing with the Rattle code. `job_text` is the model of `job`."""
 import copy, sys
 
 LIMITS = (131072, 65536, 16384, 262144, 1048576)
@@ -9,6 +9,8 @@ MAX_SCRIPT = 1048576
 MAX_BYTES, MAX_SECTIONS, MAX_MARK = 16777216, 1048576, 1048575
 PASSES = 1024
 FORMS = (0, 1, 2, 3, 4, 8, 9, 10, 11, 12)
+MAX_JOB = 32768
+JOB_BYTES, JOB_TABLE, JOB_RESULT = 65536, 16384, 65536
 
 # -- document 01, module 5: the names of op.rs; a row of 16 bytes each, `-` where it has none
 NAMES = """
@@ -379,9 +381,57 @@ class Model:
             return "result " + self.result[a:b].hex() if a <= b <= len(self.result) else None
         if kind == 28:
             return self.text[a:b].decode("latin1") if a <= b <= len(self.text) else None
+        if kind == 30:
+            return job_text(bytes(part)).decode().removesuffix("\n") if part is not None else None
         if kind >= 32 and kind - 32 in FORMS:
             return self.building(self.push_delta, a, b, kind - 32)
         return None
+
+
+# -- document 02, CR 2
+
+
+def job_parts(job):
+    """The pool and the steps of a job, every step tested."""
+    number = lambda at: int.from_bytes(job[at : at + 4], "big")
+    if not 8 <= len(job) <= MAX_JOB:
+        raise Refused(15)
+    count = number(0)
+    first = 4 + count + 4
+    if first > len(job) or first + 9 * number(4 + count) != len(job):
+        raise Refused(15)
+    steps = [(job[at], number(at + 1), number(at + 5)) for at in range(first, len(job), 9)]
+    for kind, a, b in steps:
+        listed = {1: b == 0, 2: a <= 255 and b == 0, 3: a <= b <= count, 4: b in FORMS}
+        if not listed.get(kind, kind - 32 in FORMS):
+            raise Refused(15)
+    return job[4 : 4 + count], steps
+
+
+def job_code(job):
+    pool, steps = job_parts(job)
+    store = Model((JOB_BYTES, 3 * len(steps), JOB_TABLE, JOB_RESULT, 0), pool)
+    for kind, a, b in steps:
+        if kind == 1:
+            store.push_mark(a)
+        elif kind == 2:
+            store.run(1, bytes([a]))
+        elif kind == 3:
+            store.run(2, pool[a:b])
+        elif kind == 4:
+            store.push_direct(a, b)
+        else:
+            store.push_delta(a, b, kind - 32)
+    length = int(store.assemble(0).split()[1])
+    return store.result[:length]
+
+
+def job_text(job):
+    """What `job` prints for these bytes."""
+    try:
+        return b"code %s\n" % job_code(job).hex().encode()
+    except Refused as r:
+        return b"refused %d at %d\n" % (r.number, r.section)
 
 
 def replay(script):

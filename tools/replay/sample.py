@@ -1,10 +1,10 @@
 #!/usr/bin/env python3
 """Writes the sample script of `replay` and what it must print: sample.py [--check] DRIVER [FOLDER] (../../crates/replay).
-With --check it compares instead. The expected lines are the model's; those of the last part, the fixed list, are the original's
-(DRIVER is tools/oracle's), but for what the original doesn't answer. One header serves the whole script; cases are parted by
-kind 0, and a full slice is met near its end."""
+With --check it compares instead. The expected lines are the model's, those of jobs too, so that program and model are compared;
+those of the last part, the fixed list, are the original's (DRIVER is tools/oracle's), but for what the original doesn't answer. One
+header serves the whole script; cases are parted by kind 0, and a full slice is met near its end."""
 import os, struct, sys
-import gen, model
+import gen, jobs, model
 
 sys.path.append(os.path.join(os.path.dirname(os.path.abspath(__file__)), "../oracle"))
 import fixed, lists, scripts
@@ -768,7 +768,7 @@ step(26, TABLE, TABLE)
 # bad steps, and nothing changed by them
 new()
 op(0x5B)
-for kind in (13, 14, 15, 23, 29, 30, 31, 37, 38, 39, 45, 46, 64, 128, 255):
+for kind in (13, 14, 15, 23, 29, 31, 37, 38, 39, 45, 46, 64, 128, 255):
     step(kind, 0, 0)
 for v in (256, 257, TOP):
     op(v)
@@ -782,7 +782,7 @@ direct(MARK + 1, 5)
 for kind, n in ((24, BYTES), (25, WORDS), (26, TABLE), (27, RESULT), (28, LISTING)):
     for a, b in ((1, 0), (0, n + 1), (n + 1, n + 1), (n, n + 1), (TOP, TOP), (0, TOP), (TOP, 0)):
         step(kind, a, b)
-for kind in (3, 8, 12):
+for kind in (3, 8, 12, 30):
     for a, b in ((1, 0), (0, 1), (1, 1), (-1, -2), (0, 0)):
         steps.append((kind, a, b))
     step(kind, TOP, TOP)
@@ -802,6 +802,39 @@ show()
 step(0, TOP, TOP)
 show()
 
+
+# jobs: their slices are their own, with a table longer than this script's; what the script has stays as it is, a damaged store too
+def told():
+    show()
+    step(26, 0, 20)
+    step(27, 0, 20)
+    step(28, 0, 57)  # the first listing's length
+
+
+keep(jobs.NESTED)  # four of the jobs are parts of it
+new()
+mark(0)
+op(0x5B)
+direct(0, 8)
+data(b"\xaa\xbb")
+step(20, 3)
+step(21)
+told()
+for what, job in jobs.cases():
+    step(30, *keep(job))
+    if what in ("line 12", "8 after joined op bytes", "65,536 bytes"):
+        told()
+op(0x5C)
+step(20, 3)
+step(21)
+told()
+counts(TOP, TOP)
+step(30, *keep(jobs.LINE_12))
+step(21)
+clear()
+step(30, *keep(jobs.LINE_12))
+mark(1)
+told()
 
 # the fixed list: the original's answers
 FIXED = list(fixed.steps(keep(lists.POOL)[0], LENGTHS))
