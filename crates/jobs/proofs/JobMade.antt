@@ -1,0 +1,83 @@
+-- What a job comes to, by its outcomes: 15, a refused call, or assembly. Assumes nothing.
+use Prim.Native.Nat.{ℕ}
+use mathlib.Core.Path.{_≡_, refl, sym, ap, ap₂, _∙_, subst}
+use mathlib.Core.Bool.{true, false}
+use mathlib.Core.List.{List, [], _∷_}
+use lib.ListN.{length}
+use Rattle.units.specs.Reply.{Reply, accepted, refused, refusalReply}
+use Rattle.units.specs.declared.reply.Refusal.{Refusal}
+use Rattle.records.specs.declared.Assembler.{Assembler}
+use Rattle.records.specs.Store.{Store, storeOf, countsOf, emptyCounts, wordsPerSection}
+use Rattle.calls.specs.Calls.{BuiltReply, Push, pushAfter, allReply}
+use Rattle.calls.proofs.Refusals.{all-first}
+use Rattle.layout.specs.Answer.{Laid}
+use Rattle.assembler.specs.Assemble.{assembly}
+use Rattle.jobs.specs.Job.{isJob}
+use Rattle.jobs.specs.Steps.{jobCalls, builtBy}
+use Rattle.jobs.specs.Outcome.{Lent, Made, lentOf, emptyStore, badJob, assembledFrom, jobMade}
+use Rattle.jobs.proofs.JobLoops.{built-next}
+
+-- where every call is accepted, the counts answered are those of what was built
+pub built-counts : (ps : List Push) (st : Store) (a : Assembler) → allReply wordsPerSection ps st ≡ accepted a → a ≡ countsOf (builtBy wordsPerSection ps st)
+unfolding allReply builtBy
+built-counts [] st a e = cc
+built-counts (p ∷ ps) st a e =
+    let first = all-first wordsPerSection p ps st a e in
+    built-counts ps (pushAfter wordsPerSection p st) a (first .2) ∙ ap countsOf (sym (built-next p ps st (first .0) (first .1)))
+
+module _ (job bytes words table result : List ℕ) where
+  abbrev lent : Lent
+  lent = lentOf bytes words table result
+
+  abbrev calls : List Push
+  calls = jobCalls job
+
+  -- a reply and the slices afterwards are the job's
+  abbrev pub Says : Reply Laid → Lent → Type 0
+  Says reply slices = (reply ≡ jobMade wordsPerSection job lent .reply) × (slices ≡ jobMade wordsPerSection job lent .slices)
+
+  -- what is made of one
+  says : (m : Made) → m ≡ jobMade wordsPerSection job lent → Says (m .reply) (m .slices)
+  says m e = (ap (λ (x : Made). x .reply) e, ap (λ (x : Made). x .slices) e)
+
+  -- 15: the slices as they were
+  pub made-bad : isJob job ≡ false → Says (refused badJob 0 0) lent
+  unfolding jobMade
+  made-bad e = says (record { reply = refused badJob 0 0; slices = lent }) (rw e)
+
+  module _ (good : isJob job ≡ true) where
+    -- by the answer to the calls
+    from : (r : BuiltReply) → r ≡ allReply wordsPerSection calls (emptyStore lent)
+        → assembledFrom wordsPerSection lent r (builtBy wordsPerSection calls (emptyStore lent)) ≡ jobMade wordsPerSection job lent
+    unfolding jobMade
+    from r e = rw (good, e)
+
+    -- a refused call: neither table nor result is touched
+    pub made-refused : (refusal : Refusal) (bytes′ words′ : List ℕ) → refusalReply refusal ≡ allReply wordsPerSection calls (emptyStore lent)
+        → bytes′ ≡ builtBy wordsPerSection calls (emptyStore lent) .bytes → words′ ≡ builtBy wordsPerSection calls (emptyStore lent) .words
+        → Says (refusalReply refusal) (lentOf bytes′ words′ table result)
+    made-refused refusal bytes′ words′ e b w =
+        let m = says (assembledFrom wordsPerSection lent (refusalReply refusal) (builtBy wordsPerSection calls (emptyStore lent))) (from (refusalReply refusal) e) in
+        (m .0, ap₂ (λ (x y : List ℕ). lentOf x y table result) b w ∙ m .1)
+
+    -- else assembly
+    pub made-assembled : (a : Assembler) (bytes′ words′ table′ result′ : List ℕ) (reply : Reply Laid)
+        → accepted a ≡ allReply wordsPerSection calls (emptyStore lent)
+        → bytes′ ≡ builtBy wordsPerSection calls (emptyStore lent) .bytes → words′ ≡ builtBy wordsPerSection calls (emptyStore lent) .words
+        → reply ≡ assembly wordsPerSection (storeOf a bytes′ words′) (length table) result 0 .reply
+        → table′ ≡ assembly wordsPerSection (storeOf a bytes′ words′) (length table) result 0 .table
+        → result′ ≡ assembly wordsPerSection (storeOf a bytes′ words′) (length table) result 0 .result
+        → Says reply (lentOf bytes′ words′ table′ result′)
+    made-assembled a bytes′ words′ table′ result′ reply e b w p q r =
+        let st = builtBy wordsPerSection calls (emptyStore lent) in
+        let counted : storeOf a bytes′ words′ ≡ storeOf (countsOf st) bytes′ words′ =
+        ap (λ (x : Assembler). storeOf x bytes′ words′) (built-counts calls (emptyStore lent) a (sym e)) in
+        let same : storeOf a bytes′ words′ ≡ st = counted ∙ ap₂ (λ (x y : List ℕ). storeOf (countsOf st) x y) b w in
+        let m = says (assembledFrom wordsPerSection lent (accepted a) st) (from (accepted a) e) in (
+          p ∙ ap (λ (s : Store). assembly wordsPerSection s (length table) result 0 .reply) same ∙ m .0,
+          ap₂ (λ (x y : List ℕ). lentOf x y table′ result′) b w
+              ∙ ap₂ (λ (x y : List ℕ). lentOf (st .bytes) (st .words) x y)
+              (q ∙ ap (λ (s : Store). assembly wordsPerSection s (length table) result 0 .table) same)
+              (r ∙ ap (λ (s : Store). assembly wordsPerSection s (length table) result 0 .result) same)
+              ∙ m .1,
+        )

@@ -1,0 +1,309 @@
+-- The numbers of a job's answer: 15 exactly for what is no job; and where there is a section for each step, no 5 and no 6. From the empty
+-- store each accepted call adds at most one section and leaves an undamaged store. Assumes nothing.
+use Prim.Native.Nat.{ℕ, zero, suc, _+_, _*_, _≤_}
+use native.Mathlib.Omega.{arith}
+use mathlib.Core.Path.{_≡_, refl, sym, ap, _∙_, subst}
+use mathlib.Core.Bool.{Bool, true, false, cond, not, _&&_, and-false, and-eq-true-iff as and-true}
+use mathlib.Core.Logic.{_⊎_, inl, inr}
+use mathlib.Core.List.{List, [], _∷_, map}
+use lib.Dec.{leb, eqb}
+use lib.ListN.{length, length-map}
+use borrow.Author.Tests.{leb-true, le-ltb}
+use Rattle.units.specs.Replies.{largeMark, bytesFull, resultFull}
+use Rattle.units.specs.Reply.{Reply, accepted, refused}
+use Rattle.slices.proofs.Tests.{cond-case}
+use Rattle.records.specs.declared.Assembler.{Assembler}
+use Rattle.records.specs.Store.{Store, countsOf, maxSections, wordsPerSection}
+use Rattle.records.specs.Sections.{Section, decode}
+use Rattle.undamaged.specs.View.{Undamaged}
+use Rattle.undamaged.proofs.Soundness.{undamaged-last-sound}
+use Rattle.calls.specs.Calls.{BuiltReply, Push, push, hasBadDepth, hasBadWord, hasLargeMark, added, joins, withSection}
+use Rattle.calls.specs.Calls.{bytesPass, noSectionLeft, sectionPasses, roomReply, addReply, pushReply, pushAfter}
+use Rattle.calls.specs.Calls.{allReply, eachAfter, allAfter}
+use Rattle.calls.specs.Lists.{addedEach}
+use Rattle.calls.proofs.Refusals.{accepted-refused, push-answers, accepted-added, all-refused, all-next, all-first, all-each}
+use Rattle.calls.proofs.Rooms.{left-slice}
+use Rattle.calls.proofs.Calls.{call-kept, emptied-undamaged, emptied-decode, all-accepted, call-undamaged}
+use Rattle.calls.proofs.Runs.{first-refused}
+use Rattle.layout.specs.Answer.{LayoutRefusal, shortTable, unplaced, placedApart, tooNarrow, unsettled, backward, layoutNumbers}
+use Rattle.layout.specs.Answer.{Answer, laidOut, noLayout, answer, answerReply, answerTable}
+use Rattle.settling.proofs.SettlingLaw.{sound-settles}
+use Rattle.assembler.specs.Assemble.{Outcome, isFull, writing, assembly}
+use Rattle.jobs.specs.declared.read.Step.{Step}
+use Rattle.jobs.specs.Job.{poolCount, pool, stepCount, stepsStart, stepBytes, stepsFrom, steps, maxJob, isWhole, allListed, isJob}
+use Rattle.jobs.specs.Job.{markStep, opStep, dataStep, directStep}
+use Rattle.jobs.specs.Steps.{stepCall, jobCalls, builtBy}
+use Rattle.jobs.specs.Outcome.{Lent, Made, emptyStore, badJob, assembledFrom, jobMade}
+use Rattle.jobs.specs.JobAnswers.{FifteenIff, HasSections, EarlyRefusal, LateRefusal, NumbersOf}
+use Rattle.jobs.proofs.JobLoops.{built-next, job-facts}
+
+-- ---- a job's answer by cases
+
+-- what a job's calls answer
+abbrev pub callsReply : List ℕ → Lent → BuiltReply
+callsReply job lent = allReply wordsPerSection (jobCalls job) (emptyStore lent)
+
+-- what they build
+abbrev pub callsBuild : List ℕ → Lent → Store
+callsBuild job lent = builtBy wordsPerSection (jobCalls job) (emptyStore lent)
+
+module _ (job : List ℕ) (lent : Lent) where
+  -- no job
+  pub made-of-none : isJob job ≡ false → jobMade wordsPerSection job lent ≡ record { reply = refused badJob 0 0; slices = lent }
+  unfolding jobMade
+  made-of-none e = rw e
+
+  -- by what the calls answer
+  pub made-of-calls : isJob job ≡ true → (r : BuiltReply) → callsReply job lent ≡ r
+      → jobMade wordsPerSection job lent ≡ assembledFrom wordsPerSection lent r (callsBuild job lent)
+  unfolding jobMade
+  made-of-calls good r e = rw (good, e)
+
+  -- what holds of 15, of every refused call and of assembly holds of a job
+  pub job-cases : (P : Made → Type 0)
+      → (isJob job ≡ false → P (record { reply = refused badJob 0 0; slices = lent }))
+      → (isJob job ≡ true → (n i k : ℕ) → callsReply job lent ≡ refused n i k
+      → P (assembledFrom wordsPerSection lent (refused n i k) (callsBuild job lent)))
+      → (isJob job ≡ true → (a : Assembler) → callsReply job lent ≡ accepted a
+      → P (assembledFrom wordsPerSection lent (accepted a) (callsBuild job lent)))
+      → P (jobMade wordsPerSection job lent)
+  job-cases P none stopped built = go (isJob job) refl
+    where
+      by-calls : isJob job ≡ true → (r : BuiltReply) → callsReply job lent ≡ r → P (jobMade wordsPerSection job lent)
+      by-calls good (refused n i k) e = subst P (sym (made-of-calls good (refused n i k) e)) (stopped good n i k e)
+      by-calls good (accepted a) e = subst P (sym (made-of-calls good (accepted a) e)) (built good a e)
+
+      go : (b : Bool) → isJob job ≡ b → P (jobMade wordsPerSection job lent)
+      go false e = subst P (sym (made-of-none e)) (none e)
+      go true e = by-calls e (callsReply job lent) refl
+
+-- ---- what the calls build
+
+-- accepted, each call has left its store
+built-each : (ps : List Push) (st : Store) (a : Assembler) → allReply wordsPerSection ps st ≡ accepted a
+    → builtBy wordsPerSection ps st ≡ eachAfter wordsPerSection ps st
+unfolding builtBy eachAfter
+built-each [] st a e = refl
+built-each (p ∷ ps) st a e =
+    let first = all-first wordsPerSection p ps st a e in
+    built-next p ps st (first .0) (first .1) ∙ built-each ps (pushAfter wordsPerSection p st) a (first .2)
+
+-- the empty store is undamaged
+pub empty-undamaged : (lent : Lent) → Undamaged wordsPerSection (emptyStore lent)
+empty-undamaged lent = emptied-undamaged wordsPerSection (emptyStore lent)
+
+-- what is built is undamaged, and its list of sections is the calls'
+pub built-list : (job : List ℕ) (lent : Lent) (a : Assembler) → callsReply job lent ≡ accepted a
+    → Undamaged wordsPerSection (callsBuild job lent) × (decode wordsPerSection (callsBuild job lent) ≡ addedEach [] (jobCalls job))
+built-list job lent a e =
+    let st : Store = emptyStore lent in
+    let all = all-accepted wordsPerSection (jobCalls job) st a (omega arith) (empty-undamaged lent) e in
+    let same : callsBuild job lent ≡ allAfter wordsPerSection (jobCalls job) st =
+    built-each (jobCalls job) st a e ∙ sym (all-each wordsPerSection (jobCalls job) st a e) in
+    let list = ap (λ (l : List Section). addedEach l (jobCalls job)) (emptied-decode wordsPerSection st) in
+    rw same (all .0, all .1 ∙ list)
+
+-- ---- its assembly
+
+-- assembly by the list of sections alone
+abbrev pub listAssembly : ℕ → List ℕ → List Section → Outcome
+listAssembly n result l = writing n result 0 l (answerTable n (answer n l)) (answerReply (answer n l))
+
+-- so of an undamaged store
+pub assembly-by-list : (st : Store) (n : ℕ) (result : List ℕ) → Undamaged wordsPerSection st
+    → assembly wordsPerSection st n result 0 ≡ listAssembly n result (decode wordsPerSection st)
+unfolding assembly
+assembly-by-list st n result u = rw (sound-settles wordsPerSection n st u)
+
+-- a refusal of the layout is 7 to 12
+layout-late : (r : LayoutRefusal) → LateRefusal (layoutNumbers r .number)
+layout-late (shortTable i) = (omega arith, omega arith)
+layout-late (unplaced i) = (omega arith, omega arith)
+layout-late (placedApart i) = (omega arith, omega arith)
+layout-late (tooNarrow i k) = (omega arith, omega arith)
+layout-late unsettled = (omega arith, omega arith)
+layout-late (backward i k) = (omega arith, omega arith)
+
+-- refusals that are the same have the same number
+same-number : {A : Type 0} {m j l n i k : ℕ} → _≡_ {A = Reply A} (refused m j l) (refused n i k) → m ≡ n
+same-number e = cc
+
+-- a refusal of assembly is 7 to 13
+writing-late : (m : ℕ) (result : List ℕ) (ss : List Section) (a : Answer) (n i k : ℕ)
+    → writing m result 0 ss (answerTable m a) (answerReply a) .reply ≡ refused n i k → LateRefusal n
+writing-late m result ss (noLayout r) n i k e = subst LateRefusal (same-number e) (layout-late r)
+writing-late m result ss (laidOut table size passes) n i k e =
+    cond-case (λ (o : Outcome). o .reply ≡ refused n i k → LateRefusal n) (isFull (length result) 0 size) _ _
+    (λ _ f. let same : resultFull ≡ n = same-number f in (omega arith, omega arith))
+    (λ _ f. let z : _≡_ {A = ℕ} 0 1 = cc in absurd (omega arith))
+    e
+
+-- so of what the calls build
+built-late : (job : List ℕ) (lent : Lent) (a : Assembler) (n i k : ℕ) → callsReply job lent ≡ accepted a
+    → assembledFrom wordsPerSection lent (accepted a) (callsBuild job lent) .reply ≡ refused n i k → LateRefusal n
+built-late job lent a n i k e f =
+    let st : Store = callsBuild job lent in
+    let m : ℕ = length (lent .table) in
+    let ss : List Section = decode wordsPerSection st in
+    let same = assembly-by-list st m (lent .result) (built-list job lent a e .0) in
+    writing-late m (lent .result) ss (answer m ss) n i k (sym (ap (λ (o : Outcome). o .reply) same) ∙ f)
+
+-- ---- 15
+
+-- a refused call has a number of 1 to 6
+calls-below : (ps : List Push) (st : Store) (n i k : ℕ) → allReply wordsPerSection ps st ≡ refused n i k → n ≤ 6
+calls-below ps st n i k e =
+    let r = first-refused wordsPerSection ps st n i k e in
+    push-answers wordsPerSection (r .call) _ .numbers n i k (r .refusal) .1
+
+-- so 15 is answered to what is no job, and to nothing else
+pub fifteen-iff : (job : List ℕ) (lent : Lent) → FifteenIff job lent
+fifteen-iff job lent i k = (
+  job-cases job lent Says
+      (λ e q. (e, cc, cc))
+      (λ good n i′ k′ e q. absurd (omega (arith, calls-below (jobCalls job) (emptyStore lent) n i′ k′ e, same-number q)))
+      (λ good a e q. absurd (omega (arith, built-late job lent a badJob i k e q .1))),
+  λ (e, z, z′). ap (λ (m : Made). m .reply) (made-of-none job lent e) ∙ cc,
+)
+  where
+    Says : Made → Type 0
+    Says m = m .reply ≡ refused badJob i k → (isJob job ≡ false) × (i ≡ 0) × (k ≡ 0)
+
+-- ---- room for a section for each call
+
+-- an undamaged store, and room for so many sections more
+pub record Room (st : Store) (n : ℕ) : Type 0 where
+  pub undamaged : Undamaged wordsPerSection st
+  pub limit : st .sections + n ≤ maxSections
+  pub words : wordsPerSection * (st .sections + n) ≤ length (st .words)
+
+-- so there is one left
+room-left : (st : Store) (n : ℕ) → Room st (suc n) → noSectionLeft wordsPerSection (st .sections) (st .words) ≡ false
+room-left st n room =
+    let end : ℕ = wordsPerSection * (st .sections + 1) in
+    let fits : end ≤ length (st .words) = omega arith in
+    sym (left-slice wordsPerSection (st .sections) (st .words) (omega arith)) ∙ le-ltb (length (st .words)) end fits
+
+-- a call adds at most one
+one-section : (s : Section) (st : Store) → withSection wordsPerSection s st .sections ≤ st .sections + 1
+unfolding withSection
+one-section s st =
+    cond-case (λ (x : Store). x .sections ≤ st .sections + 1) (joins wordsPerSection s st) _ _ (λ _. omega arith) (λ _. omega arith)
+
+-- and leaves room for the others
+pub room-next : (p : Push) (st : Store) (n : ℕ) (a : Assembler) → Room st (suc n) → pushReply wordsPerSection p st ≡ accepted a
+    → Room (pushAfter wordsPerSection p st) n
+room-next p st n a room e =
+    let after : Store = pushAfter wordsPerSection p st in
+    let three : 3 ≤ wordsPerSection = omega arith in
+    let one : after .sections ≤ st .sections + 1 = rw (accepted-added wordsPerSection p st a e) (one-section (added p) st) in
+    let long : length (after .words) ≡ length (st .words) = call-kept wordsPerSection (push p) st three .wordsLength in
+    record {
+      undamaged = call-undamaged wordsPerSection (push p) st three (room .undamaged);
+      limit = omega (arith, room .limit);
+      words = omega (arith, room .words);
+    }
+
+-- ---- the calls of a job
+
+-- a call that can't be refused by 1 or 2
+abbrev pub Plain : Push → Type 0
+Plain p = (hasBadDepth p ≡ false) × (hasBadWord p ≡ false)
+
+-- so every call of a list
+abbrev pub EveryPlain : List Push → Type 0
+EveryPlain [] = Unit {0}
+EveryPlain (p ∷ ps) = Plain p × EveryPlain ps
+
+-- the call of a step is one
+step-plain : (bytes : List ℕ) (s : Step) → Plain (stepCall bytes s)
+unfolding stepCall
+step-plain bytes s =
+    cond-case Plain (eqb (s .kind) markStep) _ _ (λ _. (refl, refl))
+    (λ _. cond-case Plain (eqb (s .kind) opStep) _ _ (λ _. (refl, refl))
+    (λ _. cond-case Plain (eqb (s .kind) dataStep) _ _ (λ _. (refl, refl))
+    (λ _. cond-case Plain (eqb (s .kind) directStep) _ _ (λ _. (refl, refl)) (λ _. (refl, refl)))))
+
+-- so are those of steps
+steps-plain : (bytes : List ℕ) (ss : List Step) → EveryPlain (map (stepCall bytes) ss)
+steps-plain bytes [] = tt
+steps-plain bytes (s ∷ ss) = (step-plain bytes s, steps-plain bytes ss)
+
+-- and of a job
+pub job-plain : (job : List ℕ) → EveryPlain (jobCalls job)
+job-plain job = steps-plain (pool job) (steps job)
+
+-- so many steps
+length-steps : (job : List ℕ) (n at : ℕ) → length (stepsFrom job n at) ≡ n
+unfolding stepsFrom
+length-steps job zero at = refl
+length-steps job (suc n) at = ap suc (length-steps job n (at + stepBytes))
+
+-- a call for each step
+length-calls : (job : List ℕ) → length (jobCalls job) ≡ stepCount job
+length-calls job = length-map (steps job) (stepCall (pool job)) ∙ length-steps job (stepCount job) (stepsStart job)
+
+-- a job is at most 32,768 bytes long
+job-short : (job : List ℕ) → isJob job ≡ true → length job ≤ maxJob
+unfolding isJob
+job-short job e =
+    let two = and-true (leb (length job) maxJob && isWhole job) (allListed (poolCount job) (steps job)) .0 e in
+    leb-true (length job) maxJob (and-true (leb (length job) maxJob) (isWhole job) .0 (two .0) .0)
+
+-- so with a section for each step there is room for its calls
+pub job-room : (job : List ℕ) (lent : Lent) → isJob job ≡ true → HasSections job lent → Room (emptyStore lent) (length (jobCalls job))
+job-room job lent good has =
+    let count = length-calls job in
+    let whole = job-facts job good .whole in
+    record {
+      undamaged = empty-undamaged lent;
+      limit = omega (arith, count, whole, job-short job good);
+      words = omega (arith, count, has);
+    }
+
+-- ---- their answers
+
+-- where there is room, a plain call is refused by 3 and 4 alone
+pub plain-reply : (p : Push) (st : Store) (n : ℕ) → Room st (suc n) → Plain p
+    → pushReply wordsPerSection p st
+    ≡ cond (hasLargeMark p) (refused largeMark 0 0)
+    (cond (bytesPass (added p) st) (refused bytesFull 0 0) (accepted (countsOf (withSection wordsPerSection (added p) st))))
+unfolding pushReply addReply roomReply sectionPasses
+plain-reply p st n room (depth, word) =
+    let sound = undamaged-last-sound wordsPerSection st (room .undamaged) in
+    let left = room-left st n room in
+    rw (depth, word, sound, left, and-false (not (joins wordsPerSection (added p) st)))
+
+-- each is at 0, with no pass
+plain-early : (b c : Bool) (a : Assembler) (n i k : ℕ)
+    → cond b (refused largeMark 0 0) (cond c (refused bytesFull 0 0) (accepted a)) ≡ refused n i k → EarlyRefusal n i k
+plain-early true c a n i k e = (inl cc, cc, cc)
+plain-early false true a n i k e = (inr (inl cc), cc, cc)
+plain-early false false a n i k e = absurd (accepted-refused e)
+
+-- so is a refusal of calls in turn
+all-early : (ps : List Push) (st : Store) (n i k : ℕ) → Room st (length ps) → EveryPlain ps → allReply wordsPerSection ps st ≡ refused n i k
+    → EarlyRefusal n i k
+unfolding allReply
+all-early [] st n i k room plain e = absurd (accepted-refused e)
+all-early (p ∷ ps) st n i k room plain e =
+    let after : Store = pushAfter wordsPerSection p st in
+    let later : (a : Assembler) → pushReply wordsPerSection p st ≡ accepted a → EarlyRefusal n i k =
+    λ a x. all-early ps after n i k (room-next p st (length ps) a room x) (plain .1) (sym (all-next wordsPerSection p ps st a x) ∙ e) in
+    go (pushReply wordsPerSection p st) refl later
+  where
+    go : (r : BuiltReply) → pushReply wordsPerSection p st ≡ r
+        → ((a : Assembler) → pushReply wordsPerSection p st ≡ accepted a → EarlyRefusal n i k)
+        → EarlyRefusal n i k
+    go (accepted a) x later = later a x
+    go (refused m j l) x later =
+        plain-early (hasLargeMark p) (bytesPass (added p) st) _ n i k
+        (sym (plain-reply p st (length ps) room (plain .0)) ∙ x ∙ sym (all-refused wordsPerSection p ps st m j l x) ∙ e)
+
+-- where there is a section for each step, a job is refused by 3, 4 and 15 at 0, or by 7 to 13: never by 5 or 6
+pub job-numbers : (job : List ℕ) (lent : Lent) → NumbersOf job lent
+job-numbers job lent has n i k =
+    job-cases job lent (λ (m : Made). m .reply ≡ refused n i k → EarlyRefusal n i k ⊎ LateRefusal n)
+    (λ e q. inl (inr (inr cc), cc, cc))
+    (λ good m j l e q. inl (all-early (jobCalls job) (emptyStore lent) n i k (job-room job lent good has) (job-plain job) (e ∙ cc)))
+    (λ good a e q. inr (built-late job lent a n i k e q))

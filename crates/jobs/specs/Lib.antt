@@ -1,0 +1,5 @@
+pub mod Job
+pub mod Steps
+pub mod Text
+pub mod Outcome
+pub mod JobAnswers
