@@ -6,15 +6,14 @@ use mathlib.Core.Bool.{Bool, true, false, _&&_, and-eq-true-iff as and-true}
 use mathlib.Core.List.{List, [], _∷_, map}
 use lib.ListN.{length, take, drop}
 use lib.Seq.{slice, length-slice}
-use lib.Dec.{leb, eqb}
-use borrow.Author.Tests.{eqb-true, ne-eqb, le-leb, lt-leb}
+use lib.Dec.{leb}
+use borrow.Author.Tests.{eqb-true, ne-eqb, leb-true, le-leb, lt-leb}
 use Rattle.units.specs.Reply.{accepted, refused, refusalReply}
 use Rattle.units.specs.declared.reply.Refusal.{Refusal}
 use Rattle.records.specs.declared.Assembler.{Assembler}
-use Rattle.records.specs.Store.{Store, storeOf, countsOf, emptyCounts, wordsPerSection}
-use Rattle.calls.specs.Calls.{BuiltReply, Push, pushReply, pushAfter, allReply, ifStored}
+use Rattle.records.specs.Store.{Store, storeOf, countsOf, wordsPerSection}
+use Rattle.calls.specs.Calls.{Push, pushReply, pushAfter, allReply}
 use Rattle.calls.proofs.Refusals.{push-answers, accepted-added, refused-same, all-next, all-refused}
-use Rattle.jobs.specs.declared.read.Step.{Step}
 use Rattle.jobs.specs.Job.{stepAt, stepsFrom, steps, stepBytes, isListed, allListed, poolCount, pool, stepCount, stepsStart, isWhole, isJob, maxJob}
 use Rattle.jobs.specs.Steps.{stepCall, jobCalls, builtBy}
 use Rattle.jobs.proofs.JobBytes.{part-slice}
@@ -84,6 +83,7 @@ module _ (job : List ℕ) where
   whole-length e = eqb-true (length job) (stepsStart job + stepBytes * stepCount job) e
 
 pub record IsJob (job : List ℕ) : Type 0 where
+  pub short : length job ≤ maxJob
   pub whole : length job ≡ stepsStart job + stepBytes * stepCount job
   pub listed : allListed (poolCount job) (steps job) ≡ true
 
@@ -92,8 +92,8 @@ pub job-facts : (job : List ℕ) → isJob job ≡ true → IsJob job
 unfolding isJob
 job-facts job e =
     let two = and-true (leb (length job) maxJob && isWhole job) (allListed (poolCount job) (steps job)) .0 e in
-    let whole = and-true (leb (length job) maxJob) (isWhole job) .0 (two .0) .1 in
-    record { whole = whole-length job whole; listed = two .1 }
+    let one = and-true (leb (length job) maxJob) (isWhole job) .0 (two .0) in
+    record { short = leb-true (length job) maxJob (one .0); whole = whole-length job (one .1); listed = two .1 }
 
 -- the pool is as long as its count says
 pub pool-length : (job : List ℕ) → IsJob job → length (pool job) ≡ poolCount job

@@ -1,13 +1,13 @@
 -- What a job comes to, by its outcomes: 15, a refused call, or assembly. Assumes nothing.
 use Prim.Native.Nat.{ℕ}
-use mathlib.Core.Path.{_≡_, refl, sym, ap, ap₂, _∙_, subst}
+use mathlib.Core.Path.{_≡_, sym, ap, ap₂, _∙_}
 use mathlib.Core.Bool.{true, false}
 use mathlib.Core.List.{List, [], _∷_}
 use lib.ListN.{length}
 use Rattle.units.specs.Reply.{Reply, accepted, refused, refusalReply}
 use Rattle.units.specs.declared.reply.Refusal.{Refusal}
 use Rattle.records.specs.declared.Assembler.{Assembler}
-use Rattle.records.specs.Store.{Store, storeOf, countsOf, emptyCounts, wordsPerSection}
+use Rattle.records.specs.Store.{Store, storeOf, countsOf, wordsPerSection}
 use Rattle.calls.specs.Calls.{BuiltReply, Push, pushAfter, allReply}
 use Rattle.calls.proofs.Refusals.{all-first}
 use Rattle.layout.specs.Answer.{Laid}
@@ -25,12 +25,31 @@ built-counts (p ∷ ps) st a e =
     let first = all-first wordsPerSection p ps st a e in
     built-counts ps (pushAfter wordsPerSection p st) a (first .2) ∙ ap countsOf (sym (built-next p ps st (first .0) (first .1)))
 
+-- ---- by cases
+
+-- what a job's calls answer
+abbrev pub callsReply : List ℕ → Lent → BuiltReply
+callsReply job lent = allReply wordsPerSection (jobCalls job) (emptyStore lent)
+
+-- what they build
+abbrev pub callsBuild : List ℕ → Lent → Store
+callsBuild job lent = builtBy wordsPerSection (jobCalls job) (emptyStore lent)
+
+module _ (job : List ℕ) (lent : Lent) where
+  -- no job
+  pub made-of-none : isJob job ≡ false → jobMade wordsPerSection job lent ≡ record { reply = refused badJob 0 0; slices = lent }
+  unfolding jobMade
+  made-of-none e = rw e
+
+  -- by what the calls answer
+  pub made-of-calls : isJob job ≡ true → (r : BuiltReply) → callsReply job lent ≡ r
+      → jobMade wordsPerSection job lent ≡ assembledFrom wordsPerSection lent r (callsBuild job lent)
+  unfolding jobMade
+  made-of-calls good r e = rw (good, e)
+
 module _ (job bytes words table result : List ℕ) where
   abbrev lent : Lent
   lent = lentOf bytes words table result
-
-  abbrev calls : List Push
-  calls = jobCalls job
 
   -- a reply and the slices afterwards are the job's
   abbrev pub Says : Reply Laid → Lent → Type 0
@@ -42,38 +61,31 @@ module _ (job bytes words table result : List ℕ) where
 
   -- 15: the slices as they were
   pub made-bad : isJob job ≡ false → Says (refused badJob 0 0) lent
-  unfolding jobMade
-  made-bad e = says (record { reply = refused badJob 0 0; slices = lent }) (rw e)
+  made-bad e = says (record { reply = refused badJob 0 0; slices = lent }) (sym (made-of-none job lent e))
 
   module _ (good : isJob job ≡ true) where
-    -- by the answer to the calls
-    from : (r : BuiltReply) → r ≡ allReply wordsPerSection calls (emptyStore lent)
-        → assembledFrom wordsPerSection lent r (builtBy wordsPerSection calls (emptyStore lent)) ≡ jobMade wordsPerSection job lent
-    unfolding jobMade
-    from r e = rw (good, e)
-
     -- a refused call: neither table nor result is touched
-    pub made-refused : (refusal : Refusal) (bytes′ words′ : List ℕ) → refusalReply refusal ≡ allReply wordsPerSection calls (emptyStore lent)
-        → bytes′ ≡ builtBy wordsPerSection calls (emptyStore lent) .bytes → words′ ≡ builtBy wordsPerSection calls (emptyStore lent) .words
+    pub made-refused : (refusal : Refusal) (bytes′ words′ : List ℕ) → refusalReply refusal ≡ callsReply job lent
+        → bytes′ ≡ callsBuild job lent .bytes → words′ ≡ callsBuild job lent .words
         → Says (refusalReply refusal) (lentOf bytes′ words′ table result)
     made-refused refusal bytes′ words′ e b w =
-        let m = says (assembledFrom wordsPerSection lent (refusalReply refusal) (builtBy wordsPerSection calls (emptyStore lent))) (from (refusalReply refusal) e) in
+        let m = says (assembledFrom wordsPerSection lent (refusalReply refusal) (callsBuild job lent)) (sym (made-of-calls job lent good (refusalReply refusal) (sym e))) in
         (m .0, ap₂ (λ (x y : List ℕ). lentOf x y table result) b w ∙ m .1)
 
     -- else assembly
     pub made-assembled : (a : Assembler) (bytes′ words′ table′ result′ : List ℕ) (reply : Reply Laid)
-        → accepted a ≡ allReply wordsPerSection calls (emptyStore lent)
-        → bytes′ ≡ builtBy wordsPerSection calls (emptyStore lent) .bytes → words′ ≡ builtBy wordsPerSection calls (emptyStore lent) .words
+        → accepted a ≡ callsReply job lent
+        → bytes′ ≡ callsBuild job lent .bytes → words′ ≡ callsBuild job lent .words
         → reply ≡ assembly wordsPerSection (storeOf a bytes′ words′) (length table) result 0 .reply
         → table′ ≡ assembly wordsPerSection (storeOf a bytes′ words′) (length table) result 0 .table
         → result′ ≡ assembly wordsPerSection (storeOf a bytes′ words′) (length table) result 0 .result
         → Says reply (lentOf bytes′ words′ table′ result′)
     made-assembled a bytes′ words′ table′ result′ reply e b w p q r =
-        let st = builtBy wordsPerSection calls (emptyStore lent) in
+        let st = callsBuild job lent in
         let counted : storeOf a bytes′ words′ ≡ storeOf (countsOf st) bytes′ words′ =
-        ap (λ (x : Assembler). storeOf x bytes′ words′) (built-counts calls (emptyStore lent) a (sym e)) in
+        ap (λ (x : Assembler). storeOf x bytes′ words′) (built-counts (jobCalls job) (emptyStore lent) a (sym e)) in
         let same : storeOf a bytes′ words′ ≡ st = counted ∙ ap₂ (λ (x y : List ℕ). storeOf (countsOf st) x y) b w in
-        let m = says (assembledFrom wordsPerSection lent (accepted a) st) (from (accepted a) e) in (
+        let m = says (assembledFrom wordsPerSection lent (accepted a) st) (sym (made-of-calls job lent good (accepted a) (sym e))) in (
           p ∙ ap (λ (s : Store). assembly wordsPerSection s (length table) result 0 .reply) same ∙ m .0,
           ap₂ (λ (x y : List ℕ). lentOf x y table′ result′) b w
               ∙ ap₂ (λ (x y : List ℕ). lentOf (st .bytes) (st .words) x y)

@@ -1,16 +1,12 @@
 -- The text of a reply, and the whole outcome by its two cases. Assumes nothing.
-use Prim.Native.Nat.{ℕ, _+_, _*_, _≤_, _<_}
+use Prim.Native.Nat.{ℕ, _≤_}
 use native.Mathlib.Omega.{arith}
-use mathlib.Core.Path.{_≡_, refl, sym, ap, ap₂, _∙_, subst}
-use mathlib.Core.Bool.{Bool, true, false}
+use mathlib.Core.Path.{_≡_, sym, ap, ap₂, _∙_, subst}
+use mathlib.Core.Bool.{true, false}
 use mathlib.Core.List.{List}
 use lib.ListN.{length}
 use lib.Dec.{ltb}
-use Rattle.units.specs.Replies.{refusalNumbers}
 use Rattle.units.specs.Reply.{Reply, accepted, refused}
-use Rattle.units.specs.declared.reply.Refusal.{Refusal}
-use Rattle.units.specs.declared.reply.Refusal.the-variants.{BadDepth, BadWord, LargeMark, BytesFull, SectionsFull, Damaged, ShortTable}
-use Rattle.units.specs.declared.reply.Refusal.the-variants.{Unplaced, PlacedApart, TooNarrow, Unsettled, Backward, ResultFull, ListingFull}
 use Rattle.slices.specs.Over.{over}
 use Rattle.slices.proofs.Tests.{cond-case}
 use Rattle.records.specs.Store.{Store, wordsPerSection}
@@ -24,24 +20,7 @@ use Rattle.jobs.specs.declared.JobReply.{JobReply}
 use Rattle.jobs.specs.Job.{isJob}
 use Rattle.jobs.specs.Steps.{jobCalls, builtBy}
 use Rattle.jobs.specs.Text.{textFor, longestText}
-use Rattle.jobs.specs.Outcome.{Lent, lentOf, emptyStore, jobReply, assembledFrom, Made, jobMade, FitsIn, Answer, shortText, ran, Outcome, jobText, jobOutcome}
-
--- every number of a refusal has at most two digits
-pub two-digits : (r : Refusal) → refusalNumbers r .number < 100
-two-digits BadDepth = omega arith
-two-digits BadWord = omega arith
-two-digits LargeMark = omega arith
-two-digits BytesFull = omega arith
-two-digits SectionsFull = omega arith
-two-digits (Damaged i) = omega arith
-two-digits (ShortTable i) = omega arith
-two-digits (Unplaced i) = omega arith
-two-digits (PlacedApart i) = omega arith
-two-digits (TooNarrow i k) = omega arith
-two-digits Unsettled = omega arith
-two-digits (Backward i k) = omega arith
-two-digits (ResultFull k) = omega arith
-two-digits ListingFull = omega arith
+use Rattle.jobs.specs.Outcome.{Lent, emptyStore, jobReply, assembledFrom, Made, jobMade, FitsIn, Answer, shortText, ran, Outcome, jobText, jobOutcome}
 
 -- ---- the text of a reply
 

@@ -4,5 +4,4 @@ pub mod JobLoops
 pub mod JobMade
 pub mod JobTexts
 pub mod JobReplies
-pub mod JobNumbers
-pub mod JobAlone
+pub mod JobCalls

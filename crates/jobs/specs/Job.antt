@@ -54,7 +54,7 @@ steps job = stepsFrom job (stepCount job) (stepsStart job)
 abbrev pub maxJob : ℕ
 maxJob = 32768
 
--- not 'short, long': the counts, the pool and the steps are the whole of it. Of a job that ends within its counts the sum is above its length
+-- not 'short, long': the counts, the pool and the steps are the whole of it. Where a list ends within a count, the sum is above its length
 abbrev pub isWhole : List ℕ → Bool
 isWhole job = eqb (length job) (stepsStart job + stepBytes * stepCount job)
 

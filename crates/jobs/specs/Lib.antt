@@ -2,4 +2,3 @@ pub mod Job
 pub mod Steps
 pub mod Text
 pub mod Outcome
-pub mod JobAnswers

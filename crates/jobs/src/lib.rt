@@ -15,25 +15,13 @@ use text::write_refused;
 use units::Refusal;
 ghost use mathlib.Core.Path.{_≡_};
 ghost use Prim.Native.Nat.{_≤_};
+ghost use lib.Dec.{ltb};
 ghost use lib.ListN.{length};
 ghost use Rattle.records.specs.Store.{wordsPerSection};
 ghost use Rattle.assembler.specs.Assemble.{assembledReply};
 ghost use Rattle.slices.specs.Over.{over};
 ghost use Rattle.jobs.specs.Text.{textFor, longestText};
 ghost use Rattle.jobs.specs.Outcome.{lentOf, jobReply, jobMade, FitsIn, answerOf, jobOutcome, TextWithin};
-ghost use lib.Dec.{ltb};
-
-// What the request lends: store bytes, result bytes, the words of a section for each step of the longest job, marks; and room for the
-// longest text on that result.
-pub const STORE_BYTES: usize = 65536;
-
-pub const RESULT_BYTES: usize = 65536;
-
-pub const SECTION_WORDS: usize = 10920;
-
-pub const MARKS: usize = 16384;
-
-pub const TEXT_BYTES: usize = 131078;
 
 // What a job comes to: its code, the refusal of a call or of assembly, or 15, no job.
 pub enum JobReply {
@@ -54,9 +42,9 @@ const BAD_JOB: u32 = 15;
 // The longest refusal's text, `refused 15 at 4294967295` and a line feed.
 const LONGEST_REFUSAL: usize = 25;
 
-// A job's text for the bytes of a job, from these bytes on lent slices to the answer: 15, or the calls of its steps in turn up to the first
-// that is refused, and then assembly. The text is written to the buffer's start. A buffer shorter than the longest text, which is 131,078
-// bytes for a result of 65,536, is tested first, and nothing changes.
+// Runs a job on lent slices and writes its text to the start of the text buffer. Refusals: 15 no job, before any call; then that of the
+// first refused call, 3, 4 or 5; then assembly's, 7 to 13. The store's slices keep what the calls before it wrote. A text buffer shorter
+// than the longest text, 131,078 bytes for a result of 65,536, is tested first, and nothing changes.
 pub fn run_job(
     job: &[u8],
     bytes: &mut [u8],
@@ -77,7 +65,7 @@ pub fn run_job(
         ⌜ now (text .exit)
         ≡ jobOutcome wordsPerSection (now (job .entry))
         (lentOf (now (bytes .entry)) (now (words .entry)) (now (table .entry)) (now (result .entry))) (now (text .entry)) .text ⌝ }
-    ensures within { λ r. ⌜ TextWithin (length (now (text .entry))) r ⌝ }
+    ensures within { λ r. ⌜ TextWithin (length (now (text .exit))) r ⌝ }
 {
     if is_short(text.len(), result.len()) {
         return JobRun::ShortText;

@@ -2,6 +2,7 @@
 // docs/REPLAY.md has the format. Every function is proved safe; no contract says what is printed.
 mod assembling;
 mod building;
+mod job_step;
 mod memory;
 mod printing;
 mod reading;
@@ -54,6 +55,7 @@ fn take_step(
         21 => reading::list(store, bytes, words, text),
         22 => reading::land(store, step.a, step.b, result),
         24..=28 => memory::show(store, step, bytes, words, table, result, text),
+        30 => job_step::run(store, step.a, step.b, pool),
         32..=44 => building::delta(store, step, bytes, words),
         _ => printing::bad_step(store),
     }

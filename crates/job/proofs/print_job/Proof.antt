@@ -1,48 +1,63 @@
--- The buffer keeps its length.
+-- The text lies within its buffer.
 -- Assumes nothing.
 use borrow.Author.Needs.{needs}
-use Prim.Native.Nat.{ℕ}
+use Prim.Native.Nat.{_≤_}
 use mathlib.Core.Path.{sym, subst}
+use lib.ListN.{length}
+use lib.Seq.{length-take-le}
 use Rattle.jobs.specs.Outcome.{TextWithin}
 use Rattle.job.proofs.print_job.Statement.{statement}
 use Rattle.job.proofs.print_job.Tie as tie
 
-run-job-requires : tie.Need-run-job-requires
-run-job-requires c κs = search needs
+run-alone-requires : tie.Need-run-alone-requires
+run-alone-requires c κs = search needs
 
-print-text-requires : tie.Need-print-text-requires
-print-text-requires c κs =
-    let back = c .before .before in
-    let ran = back .before .before .before .before .before .before .before .before .before in
-    subst (λ (n : ℕ). TextWithin n (ran .run-job .result)) (sym (back .text .given)) (ran .run-job .ensures .1 .1 .1)
+enum-known-reply : tie.Need-enum-known-reply
+enum-known-reply c = search needs
+
+enum-told : tie.Need-enum-told
+enum-told c = search needs
 
 same-length : tie.Need-same-length
 same-length c = search needs
 
+returns : tie.Need-returns
+returns c = search needs
+
+-- the text's length, from what the run answered
+within : (c : tie.After-reply)
+    → let ran = c .before .before .before .before in
+    c .reply .given .0 .1 .0 ≤ length (ran .run-alone .last .1 .0)
+within c =
+    let ran = c .before .before .before .before in
+    subst (TextWithin (length (ran .run-alone .last .1 .0))) (c .reply .given .1) (ran .run-alone .ensures .1 .1)
+
+slice-reshare-prefix-write-all : tie.Need-slice-reshare-prefix-write-all
+slice-reshare-prefix-write-all c = within (c .before)
+
+slice-aggregate-write-all : tie.Need-slice-aggregate-write-all
+slice-aggregate-write-all c = let told = c .before .before in sym (length-take-le (told .reply .given .0 .1 .0) _ (within told))
+
+write-all-requires : tie.Need-write-all-requires
+write-all-requires c κs = search needs
+
 same-length-2 : tie.Need-same-length-2
 same-length-2 c = search needs
 
-same-length-3 : tie.Need-same-length-3
-same-length-3 c = search needs
-
-same-length-4 : tie.Need-same-length-4
-same-length-4 c = search needs
-
-same-length-5 : tie.Need-same-length-5
-same-length-5 c = search needs
-
-returns : tie.Need-returns
-returns c = search needs
+returns-2 : tie.Need-returns-2
+returns-2 c = search needs
 
 pub print-job-spec : {M : Type 1} → statement M
 print-job-spec =
     tie.close
     (tie.spec
-    run-job-requires
-    print-text-requires
+    run-alone-requires
+    enum-known-reply
+    enum-told
     same-length
+    returns
+    slice-reshare-prefix-write-all
+    slice-aggregate-write-all
+    write-all-requires
     same-length-2
-    same-length-3
-    same-length-4
-    same-length-5
-    returns)
+    returns-2)

@@ -72,7 +72,10 @@ returns-2 c =
     let a = start-of (left .before) .args in
     let long = sym (left .before .is-short .ensures) ∙ left .if1 .left in
     let e = made .make .ensures in
-    outcome-ran (now (a .job)) (lent-at (left .before)) (now (a .text)) long (made .make .result) _ _ _ (e .0) (e .1) (written .write-reply .ensures)
+    let o = outcome-ran (now (a .job)) (lent-at (left .before)) (now (a .text)) long (made .make .result) _ _ _ (e .0) (e .1) (written .write-reply .ensures) in
+    let same = c .before .text .given in
+    let fits = o .1 .1 .1 in
+    (o .0, (o .1 .0, (o .1 .1 .0, omega (arith, same, fits))))
 
 pub run-job-spec : {M : Type 1} → statement M
 run-job-spec =

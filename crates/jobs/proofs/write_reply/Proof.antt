@@ -7,11 +7,12 @@ use mathlib.Core.Path.{sym, ap, ap₂, _∙_, subst}
 use lib.ListN.{length}
 use lib.Seq.{length-take-le}
 use denote.Ref.{now}
+use Rattle.units.proofs.Refusals.{two-digits}
 use Rattle.jobs.specs.declared.JobReply.{JobReply}
 use Rattle.slices.specs.Over.{over}
 use Rattle.jobs.specs.Text.{refusedText}
 use Rattle.jobs.specs.Outcome.{jobReply, FitsIn}
-use Rattle.jobs.proofs.JobReplies.{two-digits, wrote}
+use Rattle.jobs.proofs.JobReplies.{wrote}
 use Rattle.jobs.proofs.write_reply.Statement.{statement}
 use Rattle.jobs.proofs.write_reply.Tie as tie
 

@@ -1,7 +1,6 @@
 -- By the kind.
 -- Assumes nothing.
 use borrow.Author.Needs.{needs}
-use native.Mathlib.Omega.{arith}
 use mathlib.Core.Path.{sym, _∙_}
 use borrow.Author.Tests.{le-leb, lt-leb}
 use Rattle.jobs.proofs.JobSteps.{IsOther, listed-mark, listed-op, listed-data, listed-direct, listed-other, second-test, first-test}

@@ -3,10 +3,8 @@
 use borrow.Author.Needs.{needs}
 use native.Mathlib.Omega.{arith}
 use Prim.Native.Nat.{_≤_}
-use lib.ListN.{length}
 use denote.Ref.{now}
 use Rattle.opcodes.specs.Text.{asBytes}
-use Rattle.listing.specs.Decimal.{decimal}
 use Rattle.jobs.proofs.JobTexts.{number-digits, section-digits, refused-written}
 use Rattle.jobs.proofs.text.write_refused.Statement.{statement}
 use Rattle.jobs.proofs.text.write_refused.Tie as tie

@@ -1,15 +1,17 @@
 -- The text depends on the job alone, given the lengths of the lent slices. What the calls answer is a function of the list of sections, the
 -- stored bytes and the byte slice's length; and assembly of an undamaged store one of its list and the lengths. Assumes nothing.
-use Prim.Native.Nat.{ℕ, suc, _+_, min, _≤_}
+use Prim.Native.Nat.{ℕ, suc, _+_, _*_, min, _≤_}
 use native.Mathlib.Omega.{arith}
 use mathlib.Core.Path.{_≡_, refl, sym, ap, ap₂, _∙_}
 use mathlib.Core.Bool.{Bool, true, false, cond}
 use mathlib.Core.List.{List, [], _∷_}
 use lib.Dec.{ltb}
-use lib.ListN.{length, drop}
+use lib.ListN.{length, drop, length-replicate}
+use borrow.Author.Tests.{le-ltb}
 use lib.Seq.{take-at}
 use Rattle.units.specs.Replies.{largeMark, bytesFull}
 use Rattle.units.specs.Reply.{Reply, accepted, refused}
+use Rattle.slices.specs.Over.{over}
 use Rattle.slices.proofs.Tests.{cond-case}
 use Rattle.records.specs.declared.Assembler.{Assembler}
 use Rattle.records.specs.Store.{Store, countsOf, maxBytes, wordsPerSection}
@@ -27,13 +29,16 @@ use Rattle.assembler.specs.Emission.{codeOf}
 use Rattle.assembler.specs.Assemble.{Outcome, isFull, writing, assembly}
 use Rattle.assembler.proofs.Outcomes.{outcome-cases}
 use Rattle.assembler.proofs.Laid.{laid}
-use Rattle.jobs.specs.Job.{isJob}
+use Rattle.jobs.specs.Job.{isJob, stepCount}
 use Rattle.jobs.specs.Steps.{jobCalls}
-use Rattle.jobs.specs.Text.{codeText, refusedText, textFor}
-use Rattle.jobs.specs.Outcome.{Lent, Made, emptyStore, assembledFrom, jobMade}
-use Rattle.jobs.specs.JobAnswers.{HasSections, Alike, SameText}
-use Rattle.jobs.proofs.JobNumbers.{callsReply, callsBuild, made-of-none, made-of-calls, built-list, listAssembly, assembly-by-list}
-use Rattle.jobs.proofs.JobNumbers.{Room, room-next, Plain, EveryPlain, job-plain, job-room, plain-reply}
+use Rattle.jobs.specs.Text.{codeText, refusedText, textFor, longestText}
+use Rattle.jobs.specs.Outcome.{Lent, Made, emptyStore, assembledFrom, jobMade, jobText, ran, jobOutcome}
+use Rattle.job_alone.specs.JobAnswers.{HasSections, Alike, SameText, requestSlices, printed, ProgramLends, Prints}
+use Rattle.jobs.proofs.JobCalls.{Plain, EveryPlain, job-plain}
+use Rattle.jobs.proofs.JobLoops.{job-facts}
+use Rattle.jobs.proofs.JobMade.{callsReply, callsBuild, made-of-none, made-of-calls}
+use Rattle.job_alone.proofs.JobNumbers.{built-list, listAssembly, assembly-by-list}
+use Rattle.job_alone.proofs.JobNumbers.{Room, room-next, job-room, plain-reply}
 
 -- ---- one call by the list of sections
 
@@ -253,3 +258,61 @@ module _ (job : List ℕ) (a b : Lent) (h : Alike job a b) where
 -- the answer and the text depend on the job alone, given the lengths
 pub job-alone : (job : List ℕ) (a b : Lent) → Alike job a b → SameText job a b
 job-alone job a b h = let same = made-same job a b h in record { reply = same .0; text = same .1 }
+
+-- ---- what the program prints
+
+-- words for 3,640 sections are a section for each step of any job
+program-sections : (job : List ℕ) (lent : Lent) → length (lent .words) ≡ 10920 → HasSections job lent
+program-sections job lent long good = let facts = job-facts job good in omega (arith, facts .short, facts .whole, long)
+
+-- slices as long as the program's are alike to the request's
+program-alike : (job : List ℕ) (lent : Lent) → ProgramLends lent → Alike job lent (requestSlices (stepCount job))
+unfolding requestSlices
+program-alike job lent p =
+    record {
+      bytes = p .bytes ∙ sym (length-replicate {A = ℕ} 65536 0);
+      table = p .table ∙ sym (length-replicate {A = ℕ} 16384 0);
+      result = p .result ∙ sym (length-replicate {A = ℕ} 65536 0);
+      sections = program-sections job lent (p .words);
+      sections′ = λ _. let long = length-replicate {A = ℕ} (wordsPerSection * stepCount job) 0 in omega (arith, long);
+    }
+
+-- so whatever they hold, the text is the one that is printed
+pub program-text : (job : List ℕ) (lent : Lent) → ProgramLends lent → jobText wordsPerSection job lent ≡ printed job
+program-text job lent p = job-alone job lent (requestSlices (stepCount job)) (program-alike job lent p) .text
+
+-- a run on alike slices, with too short a buffer or not: the same answer and the same text
+outcome-alike : (job : List ℕ) (a b : Lent) (buffer : List ℕ) → Alike job a b
+    → (jobOutcome wordsPerSection job a buffer .answer ≡ jobOutcome wordsPerSection job b buffer .answer)
+    × (jobOutcome wordsPerSection job a buffer .text ≡ jobOutcome wordsPerSection job b buffer .text)
+unfolding jobOutcome
+outcome-alike job a b buffer h = go (ltb (length buffer) (longestText (length (b .result)))) refl
+  where
+    go : (t : Bool) → ltb (length buffer) (longestText (length (b .result))) ≡ t
+        → (jobOutcome wordsPerSection job a buffer .answer ≡ jobOutcome wordsPerSection job b buffer .answer)
+        × (jobOutcome wordsPerSection job a buffer .text ≡ jobOutcome wordsPerSection job b buffer .text)
+    go true e =
+        let f = ap (λ (n : ℕ). ltb (length buffer) (longestText n)) (h .result) ∙ e in
+        rw (e, f) (refl, refl)
+    go false e =
+        let f = ap (λ (n : ℕ). ltb (length buffer) (longestText n)) (h .result) ∙ e in
+        let same = job-alone job a b h in
+        rw (e, f) (ap₂ ran (same .reply) (ap length (same .text)), ap (over buffer 0) (same .text))
+
+-- so on slices as long as the program's
+pub program-outcome : (job : List ℕ) (lent : Lent) (buffer : List ℕ) → ProgramLends lent
+    → (jobOutcome wordsPerSection job lent buffer .answer ≡ jobOutcome wordsPerSection job (requestSlices (stepCount job)) buffer .answer)
+    × (jobOutcome wordsPerSection job lent buffer .text ≡ jobOutcome wordsPerSection job (requestSlices (stepCount job)) buffer .text)
+program-outcome job lent buffer p = outcome-alike job lent (requestSlices (stepCount job)) buffer (program-alike job lent p)
+
+-- and with room for the longest text, 131,078 bytes, it is written
+pub run-prints : (job : List ℕ) (lent : Lent) (buffer : List ℕ) → ProgramLends lent → 131078 ≤ length buffer → Prints job lent buffer
+unfolding jobOutcome
+run-prints job lent buffer p room =
+    let result = p .result in
+    let long = le-ltb (length buffer) (longestText (length (lent .result))) (omega (arith, room, result)) in
+    let text = program-text job lent p in
+    record {
+      answer = rw long (ap (λ (t : List ℕ). ran (jobMade wordsPerSection job lent .reply) (length t)) text);
+      text = rw long (ap (over buffer 0) text);
+    }

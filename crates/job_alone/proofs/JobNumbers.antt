@@ -1,14 +1,13 @@
 -- The numbers of a job's answer: 15 exactly for what is no job; and where there is a section for each step, no 5 and no 6. From the empty
 -- store each accepted call adds at most one section and leaves an undamaged store. Assumes nothing.
-use Prim.Native.Nat.{ℕ, zero, suc, _+_, _*_, _≤_}
+use Prim.Native.Nat.{ℕ, suc, _+_, _*_, _≤_}
 use native.Mathlib.Omega.{arith}
 use mathlib.Core.Path.{_≡_, refl, sym, ap, _∙_, subst}
-use mathlib.Core.Bool.{Bool, true, false, cond, not, _&&_, and-false, and-eq-true-iff as and-true}
+use mathlib.Core.Bool.{Bool, true, false, cond, not, and-false}
 use mathlib.Core.Logic.{_⊎_, inl, inr}
 use mathlib.Core.List.{List, [], _∷_, map}
-use lib.Dec.{leb, eqb}
-use lib.ListN.{length, length-map}
-use borrow.Author.Tests.{leb-true, le-ltb}
+use lib.ListN.{length}
+use borrow.Author.Tests.{le-ltb}
 use Rattle.units.specs.Replies.{largeMark, bytesFull, resultFull}
 use Rattle.units.specs.Reply.{Reply, accepted, refused}
 use Rattle.slices.proofs.Tests.{cond-case}
@@ -17,48 +16,30 @@ use Rattle.records.specs.Store.{Store, countsOf, maxSections, wordsPerSection}
 use Rattle.records.specs.Sections.{Section, decode}
 use Rattle.undamaged.specs.View.{Undamaged}
 use Rattle.undamaged.proofs.Soundness.{undamaged-last-sound}
-use Rattle.calls.specs.Calls.{BuiltReply, Push, push, hasBadDepth, hasBadWord, hasLargeMark, added, joins, withSection}
+use Rattle.calls.specs.Calls.{BuiltReply, Push, push, hasLargeMark, added, joins, withSection}
 use Rattle.calls.specs.Calls.{bytesPass, noSectionLeft, sectionPasses, roomReply, addReply, pushReply, pushAfter}
-use Rattle.calls.specs.Calls.{allReply, eachAfter, allAfter}
+use Rattle.calls.specs.Calls.{allReply, eachAfter, allAfter, runReplies, runAfter}
 use Rattle.calls.specs.Lists.{addedEach}
+use Rattle.calls.specs.Answers.{IsStored, EveryStored}
 use Rattle.calls.proofs.Refusals.{accepted-refused, push-answers, accepted-added, all-refused, all-next, all-first, all-each}
 use Rattle.calls.proofs.Rooms.{left-slice}
 use Rattle.calls.proofs.Calls.{call-kept, emptied-undamaged, emptied-decode, all-accepted, call-undamaged}
-use Rattle.calls.proofs.Runs.{first-refused}
+use Rattle.calls.proofs.Runs.{each-run, all-stored, first-refused}
 use Rattle.layout.specs.Answer.{LayoutRefusal, shortTable, unplaced, placedApart, tooNarrow, unsettled, backward, layoutNumbers}
 use Rattle.layout.specs.Answer.{Answer, laidOut, noLayout, answer, answerReply, answerTable}
 use Rattle.settling.proofs.SettlingLaw.{sound-settles}
 use Rattle.assembler.specs.Assemble.{Outcome, isFull, writing, assembly}
-use Rattle.jobs.specs.declared.read.Step.{Step}
-use Rattle.jobs.specs.Job.{poolCount, pool, stepCount, stepsStart, stepBytes, stepsFrom, steps, maxJob, isWhole, allListed, isJob}
-use Rattle.jobs.specs.Job.{markStep, opStep, dataStep, directStep}
-use Rattle.jobs.specs.Steps.{stepCall, jobCalls, builtBy}
+use Rattle.jobs.specs.Job.{isJob}
+use Rattle.jobs.specs.Steps.{jobCalls, builtBy}
 use Rattle.jobs.specs.Outcome.{Lent, Made, emptyStore, badJob, assembledFrom, jobMade}
-use Rattle.jobs.specs.JobAnswers.{FifteenIff, HasSections, EarlyRefusal, LateRefusal, NumbersOf}
+use Rattle.job_alone.specs.JobAnswers.{FifteenIff, HasSections, EarlyRefusal, LateRefusal, NumbersOf}
+use Rattle.jobs.proofs.JobCalls.{Plain, EveryPlain, job-plain, length-calls}
 use Rattle.jobs.proofs.JobLoops.{built-next, job-facts}
+use Rattle.jobs.proofs.JobMade.{callsReply, callsBuild, made-of-none, made-of-calls}
 
 -- ---- a job's answer by cases
 
--- what a job's calls answer
-abbrev pub callsReply : List ℕ → Lent → BuiltReply
-callsReply job lent = allReply wordsPerSection (jobCalls job) (emptyStore lent)
-
--- what they build
-abbrev pub callsBuild : List ℕ → Lent → Store
-callsBuild job lent = builtBy wordsPerSection (jobCalls job) (emptyStore lent)
-
 module _ (job : List ℕ) (lent : Lent) where
-  -- no job
-  pub made-of-none : isJob job ≡ false → jobMade wordsPerSection job lent ≡ record { reply = refused badJob 0 0; slices = lent }
-  unfolding jobMade
-  made-of-none e = rw e
-
-  -- by what the calls answer
-  pub made-of-calls : isJob job ≡ true → (r : BuiltReply) → callsReply job lent ≡ r
-      → jobMade wordsPerSection job lent ≡ assembledFrom wordsPerSection lent r (callsBuild job lent)
-  unfolding jobMade
-  made-of-calls good r e = rw (good, e)
-
   -- what holds of 15, of every refused call and of assembly holds of a job
   pub job-cases : (P : Made → Type 0)
       → (isJob job ≡ false → P (record { reply = refused badJob 0 0; slices = lent }))
@@ -70,11 +51,11 @@ module _ (job : List ℕ) (lent : Lent) where
   job-cases P none stopped built = go (isJob job) refl
     where
       by-calls : isJob job ≡ true → (r : BuiltReply) → callsReply job lent ≡ r → P (jobMade wordsPerSection job lent)
-      by-calls good (refused n i k) e = subst P (sym (made-of-calls good (refused n i k) e)) (stopped good n i k e)
-      by-calls good (accepted a) e = subst P (sym (made-of-calls good (accepted a) e)) (built good a e)
+      by-calls good (refused n i k) e = subst P (sym (made-of-calls job lent good (refused n i k) e)) (stopped good n i k e)
+      by-calls good (accepted a) e = subst P (sym (made-of-calls job lent good (accepted a) e)) (built good a e)
 
       go : (b : Bool) → isJob job ≡ b → P (jobMade wordsPerSection job lent)
-      go false e = subst P (sym (made-of-none e)) (none e)
+      go false e = subst P (sym (made-of-none job lent e)) (none e)
       go true e = by-calls e (callsReply job lent) refl
 
 -- ---- what the calls build
@@ -87,6 +68,16 @@ built-each [] st a e = refl
 built-each (p ∷ ps) st a e =
     let first = all-first wordsPerSection p ps st a e in
     built-next p ps st (first .0) (first .1) ∙ built-each ps (pushAfter wordsPerSection p st) a (first .2)
+
+-- so a job whose calls are accepted has run them as a list of building calls, each accepted
+pub job-runs : (job : List ℕ) (lent : Lent) (a : Assembler) → callsReply job lent ≡ accepted a
+    → EveryStored (runReplies wordsPerSection (map push (jobCalls job)) (emptyStore lent))
+    × (callsBuild job lent ≡ runAfter wordsPerSection (map push (jobCalls job)) (emptyStore lent))
+job-runs job lent a e =
+    let st = emptyStore lent in (
+      all-stored wordsPerSection (jobCalls job) st .0 (subst IsStored (sym e) tt),
+      built-each (jobCalls job) st a e ∙ each-run wordsPerSection (jobCalls job) st,
+    )
 
 -- the empty store is undamaged
 pub empty-undamaged : (lent : Lent) → Undamaged wordsPerSection (emptyStore lent)
@@ -206,59 +197,16 @@ room-next p st n a room e =
 
 -- ---- the calls of a job
 
--- a call that can't be refused by 1 or 2
-abbrev pub Plain : Push → Type 0
-Plain p = (hasBadDepth p ≡ false) × (hasBadWord p ≡ false)
-
--- so every call of a list
-abbrev pub EveryPlain : List Push → Type 0
-EveryPlain [] = Unit {0}
-EveryPlain (p ∷ ps) = Plain p × EveryPlain ps
-
--- the call of a step is one
-step-plain : (bytes : List ℕ) (s : Step) → Plain (stepCall bytes s)
-unfolding stepCall
-step-plain bytes s =
-    cond-case Plain (eqb (s .kind) markStep) _ _ (λ _. (refl, refl))
-    (λ _. cond-case Plain (eqb (s .kind) opStep) _ _ (λ _. (refl, refl))
-    (λ _. cond-case Plain (eqb (s .kind) dataStep) _ _ (λ _. (refl, refl))
-    (λ _. cond-case Plain (eqb (s .kind) directStep) _ _ (λ _. (refl, refl)) (λ _. (refl, refl)))))
-
--- so are those of steps
-steps-plain : (bytes : List ℕ) (ss : List Step) → EveryPlain (map (stepCall bytes) ss)
-steps-plain bytes [] = tt
-steps-plain bytes (s ∷ ss) = (step-plain bytes s, steps-plain bytes ss)
-
--- and of a job
-pub job-plain : (job : List ℕ) → EveryPlain (jobCalls job)
-job-plain job = steps-plain (pool job) (steps job)
-
--- so many steps
-length-steps : (job : List ℕ) (n at : ℕ) → length (stepsFrom job n at) ≡ n
-unfolding stepsFrom
-length-steps job zero at = refl
-length-steps job (suc n) at = ap suc (length-steps job n (at + stepBytes))
-
--- a call for each step
-length-calls : (job : List ℕ) → length (jobCalls job) ≡ stepCount job
-length-calls job = length-map (steps job) (stepCall (pool job)) ∙ length-steps job (stepCount job) (stepsStart job)
-
--- a job is at most 32,768 bytes long
-job-short : (job : List ℕ) → isJob job ≡ true → length job ≤ maxJob
-unfolding isJob
-job-short job e =
-    let two = and-true (leb (length job) maxJob && isWhole job) (allListed (poolCount job) (steps job)) .0 e in
-    leb-true (length job) maxJob (and-true (leb (length job) maxJob) (isWhole job) .0 (two .0) .0)
-
 -- so with a section for each step there is room for its calls
 pub job-room : (job : List ℕ) (lent : Lent) → isJob job ≡ true → HasSections job lent → Room (emptyStore lent) (length (jobCalls job))
 job-room job lent good has =
     let count = length-calls job in
-    let whole = job-facts job good .whole in
+    let facts = job-facts job good in
+    let room = has good in
     record {
       undamaged = empty-undamaged lent;
-      limit = omega (arith, count, whole, job-short job good);
-      words = omega (arith, count, has);
+      limit = omega (arith, count, facts .whole, facts .short);
+      words = omega (arith, count, room);
     }
 
 -- ---- their answers

@@ -1,0 +1,3 @@
+pub mod JobNumbers
+pub mod JobAlone
+pub mod JobExamples

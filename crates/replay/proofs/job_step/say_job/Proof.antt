@@ -1,0 +1,63 @@
+-- The text lies within its buffer.
+-- Assumes nothing.
+use borrow.Author.Needs.{needs}
+use Prim.Native.Nat.{_≤_}
+use mathlib.Core.Path.{sym, subst}
+use lib.ListN.{length}
+use lib.Seq.{length-take-le}
+use Rattle.jobs.specs.Outcome.{TextWithin}
+use Rattle.replay.proofs.job_step.say_job.Statement.{statement}
+use Rattle.replay.proofs.job_step.say_job.Tie as tie
+
+run-alone-requires : tie.Need-run-alone-requires
+run-alone-requires c κs = search needs
+
+enum-known-reply : tie.Need-enum-known-reply
+enum-known-reply c = search needs
+
+enum-told : tie.Need-enum-told
+enum-told c = search needs
+
+same-length : tie.Need-same-length
+same-length c = search needs
+
+returns : tie.Need-returns
+returns c = search needs
+
+-- the text's length, from what the run answered
+within : (c : tie.After-reply)
+    → let ran = c .before .before .before .before in
+    c .reply .given .0 .1 .0 ≤ length (ran .run-alone .last .1 .0)
+within c =
+    let ran = c .before .before .before .before in
+    subst (TextWithin (length (ran .run-alone .last .1 .0))) (c .reply .given .1) (ran .run-alone .ensures .1 .1)
+
+slice-reshare-prefix-say : tie.Need-slice-reshare-prefix-say
+slice-reshare-prefix-say c = within (c .before)
+
+slice-aggregate-say : tie.Need-slice-aggregate-say
+slice-aggregate-say c = let told = c .before .before in sym (length-take-le (told .reply .given .0 .1 .0) _ (within told))
+
+say-requires : tie.Need-say-requires
+say-requires c κs = search needs
+
+same-length-2 : tie.Need-same-length-2
+same-length-2 c = search needs
+
+returns-2 : tie.Need-returns-2
+returns-2 c = search needs
+
+pub say-job-spec : {M : Type 1} → statement M
+say-job-spec =
+    tie.close
+    (tie.spec
+    run-alone-requires
+    enum-known-reply
+    enum-told
+    same-length
+    returns
+    slice-reshare-prefix-say
+    slice-aggregate-say
+    say-requires
+    same-length-2
+    returns-2)
