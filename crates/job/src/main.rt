@@ -1,7 +1,11 @@
-// Document 02, request 2: reads a job from standard input, runs it on slices of its own, and prints its text. The exit code is 0 for every
-// input. What is printed is what `run_alone` is proved to write; here every function is proved safe.
-use job_alone::TEXT_BYTES;
-use job_alone::run_alone;
+// Document 02, request 2: reads a job from standard input and prints its text, on slices as long as the request says. The exit code is 0
+// for every input. The bytes printed are those that `write_text` is proved to write; of reading and printing no contract can speak, and
+// here every function is proved safe.
+ghost use mathlib.Core.Path.{_≡_};
+ghost use Prim.Native.Nat.{_≤_};
+ghost use lib.ListN.{length};
+use job_text::TEXT_BYTES;
+use job_text::write_text;
 use jobs::JobRun;
 use jobs::MAX_JOB;
 
@@ -11,20 +15,20 @@ fn input_buffer() -> [u8; MAX_JOB + 1] {
 }
 
 // Room for the longest text.
-fn text_buffer() -> [u8; TEXT_BYTES] {
+fn text_buffer() -> [u8; TEXT_BYTES]
+    ensures { λ r. ⌜ 131078 ≡ length r ⌝ }
+{
     [0u8; TEXT_BYTES]
 }
 
-// A job's text. A buffer that is too short for it, which `main` doesn't lend, prints nothing.
-fn print_job(job: &[u8], text: &mut [u8]) {
-    let JobRun::Ran {
-        reply,
-        text: length,
-    } = run_alone(job, text)
-    else {
+// A job's text; with room for the longest one no buffer is too short (`prints`, job_text JobAlone).
+fn print_job(job: &[u8], text: &mut [u8])
+    requires { ⌜ 131078 ≤ length (now text) ⌝ }
+{
+    let JobRun::Ran { reply, text_length } = write_text(job, text) else {
         return;
     };
-    io::write_all(libc::STDOUT_FILENO, &text[..length]);
+    io::write_all(libc::STDOUT_FILENO, &text[..text_length]);
 }
 
 fn main() {

@@ -6,7 +6,7 @@ use mathlib.Core.List.{List, [], _∷_, _++_}
 use lib.ListN.{length, getD, take, drop}
 use lib.Seq.{slice, slice-cons, slice-empty, take-add, drop-at, length-take-le}
 use Rattle.units.specs.Numbers.{number, numberAfter}
-use Rattle.jobs.specs.Job.{numberAt}
+use Rattle.jobs.specs.JobFormat.{numberAt}
 
 module _ (job : List ℕ) where
   -- a part begins with its first byte

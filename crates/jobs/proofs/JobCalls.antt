@@ -8,8 +8,8 @@ use lib.ListN.{length, length-map}
 use Rattle.slices.proofs.Tests.{cond-case}
 use Rattle.calls.specs.Calls.{Push, hasBadDepth, hasBadWord}
 use Rattle.jobs.specs.declared.read.Step.{Step}
-use Rattle.jobs.specs.Job.{pool, stepCount, stepsStart, stepBytes, stepsFrom, steps, markStep, opStep, dataStep, directStep}
-use Rattle.jobs.specs.Steps.{stepCall, jobCalls}
+use Rattle.jobs.specs.JobFormat.{pool, stepCount, stepsStart, stepBytes, stepsFrom, steps, markStep, opStep, dataStep, directStep}
+use Rattle.jobs.specs.JobCalls.{stepCall, jobCalls}
 
 -- a call that can't be refused by 1 or 2
 abbrev pub Plain : Push → Type 0

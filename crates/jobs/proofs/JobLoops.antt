@@ -2,7 +2,7 @@
 use Prim.Native.Nat.{ℕ, zero, suc, _+_, _*_, _-_, _≤_, _<_}
 use native.Mathlib.Omega.{arith}
 use mathlib.Core.Path.{_≡_, refl, sym, ap, ap₂, _∙_, subst}
-use mathlib.Core.Bool.{Bool, true, false, _&&_, and-eq-true-iff as and-true}
+use mathlib.Core.Bool.{true, false, _&&_, and-false, and-eq-true-iff as and-true}
 use mathlib.Core.List.{List, [], _∷_, map}
 use lib.ListN.{length, take, drop}
 use lib.Seq.{slice, length-slice}
@@ -14,8 +14,8 @@ use Rattle.records.specs.declared.Assembler.{Assembler}
 use Rattle.records.specs.Store.{Store, storeOf, countsOf, wordsPerSection}
 use Rattle.calls.specs.Calls.{Push, pushReply, pushAfter, allReply}
 use Rattle.calls.proofs.Refusals.{push-answers, accepted-added, refused-same, all-next, all-refused}
-use Rattle.jobs.specs.Job.{stepAt, stepsFrom, steps, stepBytes, isListed, allListed, poolCount, pool, stepCount, stepsStart, isWhole, isJob, maxJob}
-use Rattle.jobs.specs.Steps.{stepCall, jobCalls, builtBy}
+use Rattle.jobs.specs.JobFormat.{stepAt, stepsFrom, steps, stepBytes, isListed, allListed, poolCount, pool, stepCount, stepsStart, isWhole, isJob, maxJob}
+use Rattle.jobs.specs.JobCalls.{stepCall, jobCalls, builtBy}
 use Rattle.jobs.proofs.JobBytes.{part-slice}
 use Rattle.jobs.proofs.JobSteps.{Answers}
 
@@ -67,11 +67,7 @@ module _ (job : List ℕ) where
 
   pub not-whole : isWhole job ≡ false → false ≡ isJob job
   unfolding isJob
-  not-whole e = go (leb (length job) maxJob)
-    where
-      go : (b : Bool) → false ≡ b && isWhole job && allListed (poolCount job) (steps job)
-      go true = rw e
-      go false = refl
+  not-whole e = rw (e, and-false (leb (length job) maxJob))
 
   -- a whole one is a job if its steps are listed
   pub if-listed : length job ≤ maxJob → isWhole job ≡ true → allListed (poolCount job) (steps job) ≡ isJob job

@@ -12,9 +12,9 @@ use Rattle.calls.specs.Calls.{BuiltReply, Push, pushAfter, allReply}
 use Rattle.calls.proofs.Refusals.{all-first}
 use Rattle.layout.specs.Answer.{Laid}
 use Rattle.assembler.specs.Assemble.{assembly}
-use Rattle.jobs.specs.Job.{isJob}
-use Rattle.jobs.specs.Steps.{jobCalls, builtBy}
-use Rattle.jobs.specs.Outcome.{Lent, Made, lentOf, emptyStore, badJob, assembledFrom, jobMade}
+use Rattle.jobs.specs.JobFormat.{isJob}
+use Rattle.jobs.specs.JobCalls.{jobCalls, builtBy}
+use Rattle.jobs.specs.JobOutcome.{LentSlices, JobResult, lentSlices, emptyStore, badJob, assembledFrom, jobResult}
 use Rattle.jobs.proofs.JobLoops.{built-next}
 
 -- where every call is accepted, the counts answered are those of what was built
@@ -28,36 +28,36 @@ built-counts (p ∷ ps) st a e =
 -- ---- by cases
 
 -- what a job's calls answer
-abbrev pub callsReply : List ℕ → Lent → BuiltReply
+abbrev pub callsReply : List ℕ → LentSlices → BuiltReply
 callsReply job lent = allReply wordsPerSection (jobCalls job) (emptyStore lent)
 
 -- what they build
-abbrev pub callsBuild : List ℕ → Lent → Store
+abbrev pub callsBuild : List ℕ → LentSlices → Store
 callsBuild job lent = builtBy wordsPerSection (jobCalls job) (emptyStore lent)
 
-module _ (job : List ℕ) (lent : Lent) where
+module _ (job : List ℕ) (lent : LentSlices) where
   -- no job
-  pub made-of-none : isJob job ≡ false → jobMade wordsPerSection job lent ≡ record { reply = refused badJob 0 0; slices = lent }
-  unfolding jobMade
+  pub made-of-none : isJob job ≡ false → jobResult wordsPerSection job lent ≡ record { reply = refused badJob 0 0; slices = lent }
+  unfolding jobResult
   made-of-none e = rw e
 
   -- by what the calls answer
   pub made-of-calls : isJob job ≡ true → (r : BuiltReply) → callsReply job lent ≡ r
-      → jobMade wordsPerSection job lent ≡ assembledFrom wordsPerSection lent r (callsBuild job lent)
-  unfolding jobMade
+      → jobResult wordsPerSection job lent ≡ assembledFrom wordsPerSection lent r (callsBuild job lent)
+  unfolding jobResult
   made-of-calls good r e = rw (good, e)
 
 module _ (job bytes words table result : List ℕ) where
-  abbrev lent : Lent
-  lent = lentOf bytes words table result
+  abbrev lent : LentSlices
+  lent = lentSlices bytes words table result
 
   -- a reply and the slices afterwards are the job's
-  abbrev pub Says : Reply Laid → Lent → Type 0
-  Says reply slices = (reply ≡ jobMade wordsPerSection job lent .reply) × (slices ≡ jobMade wordsPerSection job lent .slices)
+  abbrev pub Says : Reply Laid → LentSlices → Type 0
+  Says reply slices = (reply ≡ jobResult wordsPerSection job lent .reply) × (slices ≡ jobResult wordsPerSection job lent .slices)
 
   -- what is made of one
-  says : (m : Made) → m ≡ jobMade wordsPerSection job lent → Says (m .reply) (m .slices)
-  says m e = (ap (λ (x : Made). x .reply) e, ap (λ (x : Made). x .slices) e)
+  says : (m : JobResult) → m ≡ jobResult wordsPerSection job lent → Says (m .reply) (m .slices)
+  says m e = (ap (λ (x : JobResult). x .reply) e, ap (λ (x : JobResult). x .slices) e)
 
   -- 15: the slices as they were
   pub made-bad : isJob job ≡ false → Says (refused badJob 0 0) lent
@@ -67,10 +67,10 @@ module _ (job bytes words table result : List ℕ) where
     -- a refused call: neither table nor result is touched
     pub made-refused : (refusal : Refusal) (bytes′ words′ : List ℕ) → refusalReply refusal ≡ callsReply job lent
         → bytes′ ≡ callsBuild job lent .bytes → words′ ≡ callsBuild job lent .words
-        → Says (refusalReply refusal) (lentOf bytes′ words′ table result)
+        → Says (refusalReply refusal) (lentSlices bytes′ words′ table result)
     made-refused refusal bytes′ words′ e b w =
         let m = says (assembledFrom wordsPerSection lent (refusalReply refusal) (callsBuild job lent)) (sym (made-of-calls job lent good (refusalReply refusal) (sym e))) in
-        (m .0, ap₂ (λ (x y : List ℕ). lentOf x y table result) b w ∙ m .1)
+        (m .0, ap₂ (λ (x y : List ℕ). lentSlices x y table result) b w ∙ m .1)
 
     -- else assembly
     pub made-assembled : (a : Assembler) (bytes′ words′ table′ result′ : List ℕ) (reply : Reply Laid)
@@ -79,7 +79,7 @@ module _ (job bytes words table result : List ℕ) where
         → reply ≡ assembly wordsPerSection (storeOf a bytes′ words′) (length table) result 0 .reply
         → table′ ≡ assembly wordsPerSection (storeOf a bytes′ words′) (length table) result 0 .table
         → result′ ≡ assembly wordsPerSection (storeOf a bytes′ words′) (length table) result 0 .result
-        → Says reply (lentOf bytes′ words′ table′ result′)
+        → Says reply (lentSlices bytes′ words′ table′ result′)
     made-assembled a bytes′ words′ table′ result′ reply e b w p q r =
         let st = callsBuild job lent in
         let counted : storeOf a bytes′ words′ ≡ storeOf (countsOf st) bytes′ words′ =
@@ -87,8 +87,8 @@ module _ (job bytes words table result : List ℕ) where
         let same : storeOf a bytes′ words′ ≡ st = counted ∙ ap₂ (λ (x y : List ℕ). storeOf (countsOf st) x y) b w in
         let m = says (assembledFrom wordsPerSection lent (accepted a) st) (sym (made-of-calls job lent good (accepted a) (sym e))) in (
           p ∙ ap (λ (s : Store). assembly wordsPerSection s (length table) result 0 .reply) same ∙ m .0,
-          ap₂ (λ (x y : List ℕ). lentOf x y table′ result′) b w
-              ∙ ap₂ (λ (x y : List ℕ). lentOf (st .bytes) (st .words) x y)
+          ap₂ (λ (x y : List ℕ). lentSlices x y table′ result′) b w
+              ∙ ap₂ (λ (x y : List ℕ). lentSlices (st .bytes) (st .words) x y)
               (q ∙ ap (λ (s : Store). assembly wordsPerSection s (length table) result 0 .table) same)
               (r ∙ ap (λ (s : Store). assembly wordsPerSection s (length table) result 0 .result) same)
               ∙ m .1,

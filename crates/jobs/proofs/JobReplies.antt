@@ -17,10 +17,10 @@ use Rattle.records.specs.Sections.{decode}
 use Rattle.assembler.specs.Assemble.{Outcome as Assembly, isFull, writing, assembly}
 use Rattle.assembler.proofs.Outcomes.{fits-law}
 use Rattle.jobs.specs.declared.JobReply.{JobReply}
-use Rattle.jobs.specs.Job.{isJob}
-use Rattle.jobs.specs.Steps.{jobCalls, builtBy}
-use Rattle.jobs.specs.Text.{textFor, longestText}
-use Rattle.jobs.specs.Outcome.{Lent, emptyStore, jobReply, assembledFrom, Made, jobMade, FitsIn, Answer, shortText, ran, Outcome, jobText, jobOutcome}
+use Rattle.jobs.specs.JobFormat.{isJob}
+use Rattle.jobs.specs.JobCalls.{jobCalls, builtBy}
+use Rattle.jobs.specs.JobText.{textFor, longestText}
+use Rattle.jobs.specs.JobOutcome.{LentSlices, emptyStore, jobReply, assembledFrom, JobResult, jobResult, FitsIn, JobAnswer, shortText, ran, JobOutcome, jobText, jobOutcome}
 
 -- ---- the text of a reply
 
@@ -45,31 +45,31 @@ assembly-fits w st n result = go (settling w n st .reply)
         cond-case (λ (o : Assembly). FitsIn (length result) (o .reply)) (isFull (length result) 0 (laid .length)) _ _ (λ _. tt)
         (λ e. let h = fits-law (length result) 0 (laid .length) .0 e in omega (arith, h))
 
-from-fits : (w : ℕ) (lent : Lent) (r : BuiltReply) (st : Store) → FitsIn (length (lent .result)) (assembledFrom w lent r st .reply)
+from-fits : (w : ℕ) (lent : LentSlices) (r : BuiltReply) (st : Store) → FitsIn (length (lent .result)) (assembledFrom w lent r st .reply)
 from-fits w lent (refused n i k) st = tt
 from-fits w lent (accepted a) st = assembly-fits w st (length (lent .table)) (lent .result)
 
-made-fits : (w : ℕ) (job : List ℕ) (lent : Lent) → FitsIn (length (lent .result)) (jobMade w job lent .reply)
-unfolding jobMade
+made-fits : (w : ℕ) (job : List ℕ) (lent : LentSlices) → FitsIn (length (lent .result)) (jobResult w job lent .reply)
+unfolding jobResult
 made-fits w job lent =
-    cond-case (λ (m : Made). FitsIn (length (lent .result)) (m .reply)) (isJob job) _ _
+    cond-case (λ (m : JobResult). FitsIn (length (lent .result)) (m .reply)) (isJob job) _ _
     (λ _. from-fits w lent (allReply w (jobCalls job) (emptyStore lent)) (builtBy w (jobCalls job) (emptyStore lent))) (λ _. tt)
 
 -- of the code's own reply, and a result of that length
-pub reply-fits : (w : ℕ) (job : List ℕ) (lent : Lent) (r : Reply Laid) (room : ℕ) → r ≡ jobMade w job lent .reply → room ≡ length (lent .result) → FitsIn room r
+pub reply-fits : (w : ℕ) (job : List ℕ) (lent : LentSlices) (r : Reply Laid) (room : ℕ) → r ≡ jobResult w job lent .reply → room ≡ length (lent .result) → FitsIn room r
 reply-fits w job lent r room e l = subst (λ (n : ℕ). FitsIn n r) (sym l) (subst (FitsIn (length (lent .result))) (sym e) (made-fits w job lent))
 
 -- ---- the outcome
 
-module _ (job : List ℕ) (lent : Lent) (buffer : List ℕ) where
-  abbrev outcome : Answer → Lent → List ℕ → Type 0 → Type 0
+module _ (job : List ℕ) (lent : LentSlices) (buffer : List ℕ) where
+  abbrev outcome : JobAnswer → LentSlices → List ℕ → Type 0 → Type 0
   outcome answer slices text within =
       (answer ≡ jobOutcome wordsPerSection job lent buffer .answer)
       × ((slices ≡ jobOutcome wordsPerSection job lent buffer .slices) × ((text ≡ jobOutcome wordsPerSection job lent buffer .text) × within))
 
   -- what is an outcome
-  is-outcome : (o : Outcome) → o ≡ jobOutcome wordsPerSection job lent buffer → outcome (o .answer) (o .slices) (o .text) (Unit {0})
-  is-outcome o e = (ap (λ (x : Outcome). x .answer) e, (ap (λ (x : Outcome). x .slices) e, (ap (λ (x : Outcome). x .text) e, tt)))
+  is-outcome : (o : JobOutcome) → o ≡ jobOutcome wordsPerSection job lent buffer → outcome (o .answer) (o .slices) (o .text) (Unit {0})
+  is-outcome o e = (ap (λ (x : JobOutcome). x .answer) e, (ap (λ (x : JobOutcome). x .slices) e, (ap (λ (x : JobOutcome). x .text) e, tt)))
 
   -- too short a buffer: nothing changes
   pub outcome-short : ltb (length buffer) (longestText (length (lent .result))) ≡ true → outcome shortText lent buffer (Unit {0})
@@ -78,15 +78,15 @@ module _ (job : List ℕ) (lent : Lent) (buffer : List ℕ) where
 
   -- else the reply and its text
   pub outcome-ran : ltb (length buffer) (longestText (length (lent .result))) ≡ false
-      → (reply : JobReply) (slices : Lent) (n : ℕ) (text : List ℕ)
-      → jobReply reply ≡ jobMade wordsPerSection job lent .reply → slices ≡ jobMade wordsPerSection job lent .slices
+      → (reply : JobReply) (slices : LentSlices) (n : ℕ) (text : List ℕ)
+      → jobReply reply ≡ jobResult wordsPerSection job lent .reply → slices ≡ jobResult wordsPerSection job lent .slices
       → Wrote (slices .result) buffer reply n text
       → outcome (ran (jobReply reply) n) slices text (n ≤ length buffer)
   unfolding jobOutcome
   outcome-ran e reply slices n text r s w =
-      let made = jobMade wordsPerSection job lent in
-      let t : textFor (jobReply reply) (slices .result) ≡ jobText wordsPerSection job lent = ap₂ (λ (x : Reply Laid) (y : Lent). textFor x (y .result)) r s in
-      let defined : Outcome = record { answer = ran (made .reply) (length (jobText wordsPerSection job lent)); slices = made .slices; text = over buffer 0 (jobText wordsPerSection job lent) } in
+      let made = jobResult wordsPerSection job lent in
+      let t : textFor (jobReply reply) (slices .result) ≡ jobText wordsPerSection job lent = ap₂ (λ (x : Reply Laid) (y : LentSlices). textFor x (y .result)) r s in
+      let defined : JobOutcome = record { answer = ran (made .reply) (length (jobText wordsPerSection job lent)); slices = made .slices; text = over buffer 0 (jobText wordsPerSection job lent) } in
       let same : defined ≡ jobOutcome wordsPerSection job lent buffer = rw e in
       let o = is-outcome defined same in
       (ap₂ ran r (w .1 .0 ∙ ap length t) ∙ o .0, (s ∙ o .1 .0, (w .1 .1 ∙ ap (over buffer 0) t ∙ o .1 .1 .0, w .0)))

@@ -16,8 +16,8 @@ use Rattle.calls.specs.Calls.{BuiltReply, Push, pushMark, pushOpByte, pushData,
 use Rattle.calls.proofs.Refusals.{accepted-added, refused-same}
 use Rattle.numbers.specs.Forms.{isForm, direct, delta}
 use Rattle.jobs.specs.declared.read.Step.{Step}
-use Rattle.jobs.specs.Job.{isListed, markStep, opStep, dataStep, directStep, deltaStep}
-use Rattle.jobs.specs.Steps.{inForm, stepCall}
+use Rattle.jobs.specs.JobFormat.{isListed, markStep, opStep, dataStep, directStep, deltaStep}
+use Rattle.jobs.specs.JobCalls.{inForm, stepCall}
 
 -- no kind but a delta's
 pub record IsOther (kind : ℕ) : Type 0 where

@@ -1,5 +1,5 @@
 -- Texts written one after another to the start of a buffer, and how long the longest is. Assumes nothing.
-use Prim.Native.Nat.{ℕ, _+_, _*_, _-_, _/_, _≤_, _<_, _^_}
+use Prim.Native.Nat.{ℕ, _+_, _*_, _≤_, _<_, _^_}
 use native.Mathlib.Omega.{arith}
 use mathlib.Core.Path.{_≡_, refl, sym, ap, _∙_}
 use mathlib.Core.Bool.{Bool, true, false}
@@ -14,7 +14,7 @@ use Rattle.listing.specs.Decimal.{decimal}
 use Rattle.listing.specs.Listing.{hex}
 use Rattle.listing.proofs.Turns.{hex-length}
 use Rattle.listing.proofs.Digits.{decimal-most}
-use Rattle.jobs.specs.Text.{codeText, refusedText, longestText}
+use Rattle.jobs.specs.JobText.{codeText, refusedText}
 
 -- a text at the start
 first : (start now x : List ℕ) → length x ≤ length start → now ≡ overIfRoom start 0 x → now ≡ over start 0 x
@@ -88,15 +88,10 @@ module _ (start : List ℕ) (n i : ℕ) (room : 25 ≤ length start) (small : n 
 
 -- ---- a buffer that is too short
 
-module _ (text result : ℕ) where
-  -- for a refusal
-  pub short-refusal : text < 25 → true ≡ ltb text (longestText result)
-  short-refusal l = sym (lt-ltb text (longestText result) (omega (arith, l)))
-
-  -- or for the code
-  pub short-code : 25 ≤ text → ltb ((text - 6) / 2) result ≡ ltb text (longestText result)
-  short-code l = go (ltb ((text - 6) / 2) result) refl
-    where
-      go : (b : Bool) → ltb ((text - 6) / 2) result ≡ b → b ≡ ltb text (longestText result)
-      go true e = let h = ltb-true ((text - 6) / 2) result e in sym (lt-ltb text (longestText result) (omega (arith, h)))
-      go false e = let h = ltb-false ((text - 6) / 2) result e in sym (le-ltb text (longestText result) (omega (arith, h, l)))
+-- two comparisons that say the same
+pub same-less : (h r m n : ℕ) → (h < r → m < n) → (r ≤ h → n ≤ m) → ltb h r ≡ ltb m n
+same-less h r m n less more = go (ltb h r) refl
+  where
+    go : (b : Bool) → ltb h r ≡ b → b ≡ ltb m n
+    go true e = sym (lt-ltb m n (less (ltb-true h r e)))
+    go false e = sym (le-ltb m n (more (ltb-false h r e)))

@@ -1,4 +1,4 @@
-pub mod Job
-pub mod Steps
-pub mod Text
-pub mod Outcome
+pub mod JobFormat
+pub mod JobCalls
+pub mod JobText
+pub mod JobOutcome

@@ -1,18 +1,18 @@
 // Document 02, request 2: a job, from its bytes to the text that is printed for it, on lent slices. `run_job` is the one public function.
-mod judge;
 mod read;
 mod run;
 mod text;
+mod validate;
 
 use assembler::Assembled;
 use assembler::assemble;
-pub use judge::MAX_JOB;
-use judge::is_job;
 use run::run_steps;
 use store::Built;
 use text::write_code;
 use text::write_refused;
 use units::Refusal;
+pub use validate::MAX_JOB;
+use validate::is_job;
 ghost use mathlib.Core.Path.{_≡_};
 ghost use Prim.Native.Nat.{_≤_};
 ghost use lib.Dec.{ltb};
@@ -20,10 +20,10 @@ ghost use lib.ListN.{length};
 ghost use Rattle.records.specs.Store.{wordsPerSection};
 ghost use Rattle.assembler.specs.Assemble.{assembledReply};
 ghost use Rattle.slices.specs.Over.{over};
-ghost use Rattle.jobs.specs.Text.{textFor, longestText};
-ghost use Rattle.jobs.specs.Outcome.{lentOf, jobReply, jobMade, FitsIn, answerOf, jobOutcome, TextWithin};
+ghost use Rattle.jobs.specs.JobText.{textFor, longestText};
+ghost use Rattle.jobs.specs.JobOutcome.{lentSlices, jobReply, jobResult, FitsIn, answerOf, jobOutcome, TextWithin};
 
-// What a job comes to: its code, the refusal of a call or of assembly, or 15, no job.
+// What a job comes to: its code's length and the passes made, the refusal of a call or of assembly, or 15, no job.
 pub enum JobReply {
     Code { length: u32, passes: u32 },
     Refused(Refusal),
@@ -32,7 +32,7 @@ pub enum JobReply {
 
 // What running a job answers: the reply and the text's length; or the text buffer is shorter than the longest text.
 pub enum JobRun {
-    Ran { reply: JobReply, text: usize },
+    Ran { reply: JobReply, text_length: usize },
     ShortText,
 }
 
@@ -42,9 +42,10 @@ const BAD_JOB: u32 = 15;
 // The longest refusal's text, `refused 15 at 4294967295` and a line feed.
 const LONGEST_REFUSAL: usize = 25;
 
-// Runs a job on lent slices and writes its text to the start of the text buffer. Refusals: 15 no job, before any call; then that of the
-// first refused call, 3, 4 or 5; then assembly's, 7 to 13. The store's slices keep what the calls before it wrote. A text buffer shorter
-// than the longest text, 131,078 bytes for a result of 65,536, is tested first, and nothing changes.
+// Runs a job on lent slices and writes its text to the start of the text buffer. Refusals: 15 no job, before any call, and no slice is
+// changed; then that of the first refused call of its steps, and the slices are those of the call before it; then assembly's, 7 to 13, and
+// the table is all 0, the result as it was. A text buffer shorter than the longest text, 131,078 bytes for a result of 65,536, is tested
+// first, and nothing changes.
 pub fn run_job(
     job: &[u8],
     bytes: &mut [u8],
@@ -56,15 +57,15 @@ pub fn run_job(
     ensures answer { λ r.
         ⌜ answerOf r
         ≡ jobOutcome wordsPerSection (now (job .entry))
-        (lentOf (now (bytes .entry)) (now (words .entry)) (now (table .entry)) (now (result .entry))) (now (text .entry)) .answer ⌝ }
+        (lentSlices (now (bytes .entry)) (now (words .entry)) (now (table .entry)) (now (result .entry))) (now (text .entry)) .answer ⌝ }
     ensures slices { λ _.
-        ⌜ lentOf (now (bytes .exit)) (now (words .exit)) (now (table .exit)) (now (result .exit))
+        ⌜ lentSlices (now (bytes .exit)) (now (words .exit)) (now (table .exit)) (now (result .exit))
         ≡ jobOutcome wordsPerSection (now (job .entry))
-        (lentOf (now (bytes .entry)) (now (words .entry)) (now (table .entry)) (now (result .entry))) (now (text .entry)) .slices ⌝ }
+        (lentSlices (now (bytes .entry)) (now (words .entry)) (now (table .entry)) (now (result .entry))) (now (text .entry)) .slices ⌝ }
     ensures text { λ _.
         ⌜ now (text .exit)
         ≡ jobOutcome wordsPerSection (now (job .entry))
-        (lentOf (now (bytes .entry)) (now (words .entry)) (now (table .entry)) (now (result .entry))) (now (text .entry)) .text ⌝ }
+        (lentSlices (now (bytes .entry)) (now (words .entry)) (now (table .entry)) (now (result .entry))) (now (text .entry)) .text ⌝ }
     ensures within { λ r. ⌜ TextWithin (length (now (text .exit))) r ⌝ }
 {
     if is_short(text.len(), result.len()) {
@@ -74,7 +75,7 @@ pub fn run_job(
     let length = write_reply(reply, result, text);
     JobRun::Ran {
         reply,
-        text: length,
+        text_length: length,
     }
 }
 
@@ -121,11 +122,11 @@ fn make(
     table: &mut [u32],
     result: &mut [u8],
 ) -> JobReply
-    ensures { λ r. ⌜ jobReply r ≡ jobMade wordsPerSection (now (job .entry))
-        (lentOf (now (bytes .entry)) (now (words .entry)) (now (table .entry)) (now (result .entry))) .reply ⌝ }
-    ensures { λ _. ⌜ lentOf (now (bytes .exit)) (now (words .exit)) (now (table .exit)) (now (result .exit))
-        ≡ jobMade wordsPerSection (now (job .entry))
-        (lentOf (now (bytes .entry)) (now (words .entry)) (now (table .entry)) (now (result .entry))) .slices ⌝ }
+    ensures { λ r. ⌜ jobReply r ≡ jobResult wordsPerSection (now (job .entry))
+        (lentSlices (now (bytes .entry)) (now (words .entry)) (now (table .entry)) (now (result .entry))) .reply ⌝ }
+    ensures { λ _. ⌜ lentSlices (now (bytes .exit)) (now (words .exit)) (now (table .exit)) (now (result .exit))
+        ≡ jobResult wordsPerSection (now (job .entry))
+        (lentSlices (now (bytes .entry)) (now (words .entry)) (now (table .entry)) (now (result .entry))) .slices ⌝ }
 {
     if !is_job(job) {
         return JobReply::BadJob;

@@ -4,14 +4,14 @@ ghost use Prim.Native.Nat.{_+_, _≤_};
 ghost use lib.ListN.{length};
 ghost use lib.Seq.{slice};
 ghost use Rattle.units.specs.Numbers.{number};
-ghost use Rattle.jobs.specs.Job.{numberAt, stepAt};
+ghost use Rattle.jobs.specs.JobFormat.{numberAt, stepAt};
 
 // A count or a field of a step.
 pub(crate) const NUMBER_BYTES: usize = 4;
 
 pub(crate) const STEP_BYTES: usize = 9;
 
-// The kinds of a step. That of a delta is 32 and its form.
+// The kinds of a step. That of a delta is 32 plus its form.
 pub(crate) const MARK: u8 = 1;
 
 pub(crate) const OP: u8 = 2;

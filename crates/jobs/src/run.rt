@@ -3,6 +3,7 @@ use crate::read::DATA;
 use crate::read::DELTA;
 use crate::read::DIRECT;
 use crate::read::MARK;
+use crate::read::NUMBER_BYTES;
 use crate::read::OP;
 use crate::read::STEP_BYTES;
 use crate::read::Step;
@@ -25,8 +26,8 @@ ghost use lib.ListN.{length};
 ghost use Rattle.records.specs.Store.{storeOf, emptyCounts, wordsPerSection};
 ghost use Rattle.calls.specs.Calls.{pushReply, pushAfter, allReply};
 ghost use Rattle.store.specs.Built.{builtReply};
-ghost use Rattle.jobs.specs.Job.{isListed, isJob};
-ghost use Rattle.jobs.specs.Steps.{inForm, stepCall, jobCalls, builtBy};
+ghost use Rattle.jobs.specs.JobFormat.{isListed, isJob};
+ghost use Rattle.jobs.specs.JobCalls.{inForm, stepCall, jobCalls, builtBy};
 
 // A reference to these marks in a form.
 fn refer(
@@ -104,12 +105,18 @@ pub(crate) fn run_steps(job: &[u8], bytes: &mut [u8], words: &mut [u32]) -> Buil
     ensures { λ _. ⌜ now (words .exit) ≡ builtBy wordsPerSection (jobCalls (now (job .entry)))
         (storeOf emptyCounts (now (bytes .entry)) (now (words .entry))) .words ⌝ }
 {
-    let pool_end = 4 + number_at(job, 0) as usize;
-    let mut at = pool_end + 4;
+    let pool_end = NUMBER_BYTES + number_at(job, 0) as usize;
+    let mut at = pool_end + NUMBER_BYTES;
     let mut left = number_at(job, pool_end);
     let mut store = Assembler::new();
     while left > 0 {
-        let built = take_step(store, step_at(job, at), &job[4..pool_end], bytes, words);
+        let built = take_step(
+            store,
+            step_at(job, at),
+            &job[NUMBER_BYTES..pool_end],
+            bytes,
+            words,
+        );
         let Built::Stored(next) = built else {
             return built;
         };

@@ -6,7 +6,7 @@ ghost use mathlib.Core.Path.{_≡_};
 ghost use Prim.Native.Nat.{_+_, _*_, _≤_, _<_};
 ghost use lib.ListN.{length};
 ghost use Rattle.slices.specs.Over.{over};
-ghost use Rattle.jobs.specs.Text.{codeText, refusedText};
+ghost use Rattle.jobs.specs.JobText.{codeText, refusedText};
 
 // `code `, lower-case hex and a line feed.
 pub(crate) fn write_code(text: &mut [u8], code: &[u8]) -> usize

@@ -5,12 +5,12 @@ use Prim.Native.Nat.{_≤_}
 use mathlib.Core.Path.{sym, subst}
 use lib.ListN.{length}
 use lib.Seq.{length-take-le}
-use Rattle.jobs.specs.Outcome.{TextWithin}
+use Rattle.jobs.specs.JobOutcome.{TextWithin}
 use Rattle.job.proofs.print_job.Statement.{statement}
 use Rattle.job.proofs.print_job.Tie as tie
 
-run-alone-requires : tie.Need-run-alone-requires
-run-alone-requires c κs = search needs
+write-text-requires : tie.Need-write-text-requires
+write-text-requires c κs = search needs
 
 enum-known-reply : tie.Need-enum-known-reply
 enum-known-reply c = search needs
@@ -27,10 +27,10 @@ returns c = search needs
 -- the text's length, from what the run answered
 within : (c : tie.After-reply)
     → let ran = c .before .before .before .before in
-    c .reply .given .0 .1 .0 ≤ length (ran .run-alone .last .1 .0)
+    c .reply .given .0 .1 .0 ≤ length (ran .write-text .last .1 .0)
 within c =
     let ran = c .before .before .before .before in
-    subst (TextWithin (length (ran .run-alone .last .1 .0))) (c .reply .given .1) (ran .run-alone .ensures .1 .1)
+    subst (TextWithin (length (ran .write-text .last .1 .0))) (c .reply .given .1) (ran .write-text .ensures .1 .1)
 
 slice-reshare-prefix-write-all : tie.Need-slice-reshare-prefix-write-all
 slice-reshare-prefix-write-all c = within (c .before)
@@ -51,7 +51,7 @@ pub print-job-spec : {M : Type 1} → statement M
 print-job-spec =
     tie.close
     (tie.spec
-    run-alone-requires
+    write-text-requires
     enum-known-reply
     enum-told
     same-length

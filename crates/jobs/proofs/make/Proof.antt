@@ -5,7 +5,7 @@ use mathlib.Core.Path.{_≡_, sym, ap, _∙_}
 use mathlib.Core.Bool.{true}
 use denote.Ref.{now}
 use Rattle.store.specs.Built.{builtReply}
-use Rattle.jobs.specs.Job.{isJob}
+use Rattle.jobs.specs.JobFormat.{isJob}
 use Rattle.jobs.proofs.JobSteps.{denied, granted}
 use Rattle.jobs.proofs.JobMade.{made-bad, made-refused, made-assembled}
 use Rattle.jobs.proofs.make.Statement.{statement}

@@ -7,8 +7,8 @@ use lib.ListN.{length}
 use borrow.Author.Tests.{ltb-false}
 use denote.Ref.{now}
 use Rattle.records.specs.Store.{wordsPerSection}
-use Rattle.jobs.specs.Outcome.{Lent, lentOf}
-use Rattle.jobs.specs.Text.{longestText}
+use Rattle.jobs.specs.JobOutcome.{LentSlices, lentSlices}
+use Rattle.jobs.specs.JobText.{longestText}
 use Rattle.jobs.proofs.JobReplies.{reply-fits, outcome-short, outcome-ran}
 use Rattle.jobs.proofs.run_job.Statement.{statement}
 use Rattle.jobs.proofs.run_job.Tie as tie
@@ -17,8 +17,8 @@ use Rattle.jobs.proofs.run_job.Tie as tie
 abbrev start-of : tie.After-is-short → tie.Start
 start-of c = c .before .before .before .before .before .before .before
 
-abbrev lent-at : tie.After-is-short → Lent
-lent-at c = let a = start-of c .args in lentOf (now (a .bytes)) (now (a .words)) (now (a .table)) (now (a .result))
+abbrev lent-at : tie.After-is-short → LentSlices
+lent-at c = let a = start-of c .args in lentSlices (now (a .bytes)) (now (a .words)) (now (a .table)) (now (a .result))
 
 -- that test, seen from where the job was made
 abbrev tested-at : tie.After-make → tie.Else1

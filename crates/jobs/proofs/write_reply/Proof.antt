@@ -10,8 +10,8 @@ use denote.Ref.{now}
 use Rattle.units.proofs.Refusals.{two-digits}
 use Rattle.jobs.specs.declared.JobReply.{JobReply}
 use Rattle.slices.specs.Over.{over}
-use Rattle.jobs.specs.Text.{refusedText}
-use Rattle.jobs.specs.Outcome.{jobReply, FitsIn}
+use Rattle.jobs.specs.JobText.{refusedText}
+use Rattle.jobs.specs.JobOutcome.{jobReply, FitsIn}
 use Rattle.jobs.proofs.JobReplies.{wrote}
 use Rattle.jobs.proofs.write_reply.Statement.{statement}
 use Rattle.jobs.proofs.write_reply.Tie as tie

@@ -6,7 +6,7 @@ use Prim.Native.Nat.{ℕ, _+_}
 use mathlib.Core.Path.{_≡_, ap, ap₂, _∙_}
 use lib.ListN.{getD}
 use denote.Ref.{now}
-use Rattle.jobs.specs.Job.{numberAt}
+use Rattle.jobs.specs.JobFormat.{numberAt}
 use Rattle.jobs.proofs.read.step_at.Statement.{statement}
 use Rattle.jobs.proofs.read.step_at.Tie as tie
 use Rattle.jobs.proofs.read.number_at.Reads as number-at-reads

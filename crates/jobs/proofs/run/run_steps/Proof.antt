@@ -10,8 +10,8 @@ use denote.Ref.{now}
 use Rattle.records.specs.declared.Assembler.{Assembler}
 use Rattle.records.specs.Store.{storeOf, emptyCounts}
 use Rattle.store.specs.Built.{builtReply}
-use Rattle.jobs.specs.Job.{numberAt, pool, stepsStart, stepAt, isListed}
-use Rattle.jobs.specs.Steps.{stepCall}
+use Rattle.jobs.specs.JobFormat.{numberAt, pool, stepsStart, stepAt, isListed}
+use Rattle.jobs.specs.JobCalls.{stepCall}
 use Rattle.jobs.proofs.JobSteps.{Answers, as-step}
 use Rattle.jobs.proofs.JobLoops.{IsJob, Taking, job-facts, pool-length, pool-lent, taking-start, taking-listed, taking-refused, taking-next, taking-done}
 use Rattle.jobs.proofs.run.run_steps.Statement.{statement}
