@@ -107,12 +107,16 @@ def slowly(program, job, give, take):
 def by_hand(program):
     """Texts that are written out here, so that they don't rest on the model."""
     top, step = b"\xff" * 4, bytes.fromhex("02 0000005b 00000000")
+    longest = bytes(4) + bytes.fromhex("00000e38") + 3640 * step  # 32,768 bytes: a program that reads no more takes any longer one too
     for what, job, text in (
         ("the example", EXAMPLE_JOB, EXAMPLE_TEXT),
         ("two zero counts", bytes(8), b"code \n"),
         ("no input", b"", b"refused 15 at 0\n"),
         ("a megabyte", bytes(2**20), b"refused 15 at 0\n"),
         ("a megabyte after a job", EXAMPLE_JOB + bytes(2**20), b"refused 15 at 0\n"),
+        ("the longest job", longest, b"code " + b"5b" * 3640 + b"\n"),
+        ("the longest job and a byte", longest + b"\0", b"refused 15 at 0\n"),
+        ("the longest job and a megabyte", longest + bytes(2**20), b"refused 15 at 0\n"),
         ("a pool count of 2^32 - 1", top + bytes(4) + step, b"refused 15 at 0\n"),
         ("a step count of 2^32 - 1", bytes(4) + top + step, b"refused 15 at 0\n"),
         ("both", top + top, b"refused 15 at 0\n"),

@@ -177,6 +177,7 @@ def more():
         yield f"{n} bytes, nearly all pool", job(bytes(n - 35), mark(3), data(n - 37, n - 35), direct(3, 8))
     yield "nearly a megabyte of zeros", bytes(2**20 - 300)
     yield "32,768 bytes of pool alone", job(bytes(32760))
+    yield "the longest job and a byte", job(b"", *([op(0x5B)] * STEPS)) + b"\0"
     yield "32,769 bytes of pool alone", job(bytes(32761))
     for n in range(len(LINE_12)):
         yield f"{n} bytes of line 12", LINE_12[:n]
