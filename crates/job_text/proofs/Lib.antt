@@ -1,3 +1,4 @@
 pub mod JobNumbers
 pub mod JobAlone
 pub mod JobExamples
+pub mod JobShortest
