@@ -1,7 +1,7 @@
 #!/usr/bin/env python3
 """Makes a job from text: make.py [FILE] > JOB (standard input without FILE). docs/JOB.md has a job's format and the lines; a line
-that can't be read is named on standard error, with exit code 1 and nothing written. What `job` refuses isn't refused here: the text
-only has to have bytes in the format."""
+that can't be read is named on standard error, with exit code 1 and nothing written. What `job` refuses isn't refused here: a
+line only has to be a step of the format."""
 import re, struct, sys
 
 TOP = 2**32 - 1

@@ -1,7 +1,7 @@
 #!/usr/bin/env python3
 """An independent model of `replay`. Reads a script on standard input, prints what replay must print.
-Written from REPLAY.md, document 01 (modules 1 to 6, Replies), CR 1 and 2 of document 02, READINGS 1 to 25 and 30 to 33, and op.rs for
-the names; it shares nothing with the Rattle code. `job_text` is the model of `job`."""
+Written from docs/REPLAY.md, document 01 (modules 1 to 6, Replies), requests 1 and 2 of document 02 as docs/DECISIONS.md reads them, and
+op.rs for the names; it shares nothing with the Rattle code. `job_text` is the model of `job`."""
 import copy, sys
 
 LIMITS = (131072, 65536, 16384, 262144, 1048576)

@@ -1,6 +1,6 @@
 // Document 02, request 2: reads a job from standard input and prints its text, on slices as long as the request says. The exit code is 0
-// for every input. The bytes printed are those that `write_text` is proved to write; of reading and printing no contract can speak, and
-// here every function is proved safe.
+// for every input. It prints what `write_text` writes, whose contract says which bytes those are. That the input is what was read, and that
+// the text arrives, isn't proved; every function here is proved safe.
 ghost use mathlib.Core.Path.{_≡_};
 ghost use Prim.Native.Nat.{_≤_};
 ghost use lib.ListN.{length};

@@ -1,4 +1,5 @@
--- Demand 3 of a job: what its calls built is assembled, so the code that is printed is the shortest. Assumes nothing.
+-- Demand 3 of a job: what its calls built is assembled, so under demand 3's premises the code in its result is the shortest.
+-- Assumes nothing.
 use Prim.Native.Nat.{ℕ}
 use mathlib.Core.Path.{_≡_}
 use mathlib.Core.Bool.{true}

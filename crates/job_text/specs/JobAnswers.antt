@@ -1,5 +1,6 @@
--- Document 02, request 2: laws of a job's answer: when it is 15, which numbers there are, and that the text depends on the job alone. They
--- are proved in proofs/JobNumbers (`fifteen-iff`, `job-numbers`) and proofs/JobAlone (`job-alone`). Assumes nothing.
+-- Document 02, request 2: laws of a job's answer: when it is 15, which numbers there are, and that the text depends on the job alone,
+-- given the slices' lengths. They are proved in proofs/JobNumbers (`fifteen-iff`, `job-numbers`) and proofs/JobAlone (`job-alone`).
+-- Assumes nothing.
 use Prim.Native.Nat.{ℕ, _*_, _≤_}
 use mathlib.Core.Path.{_≡_}
 use mathlib.Core.Logic.{_↔_, _⊎_}

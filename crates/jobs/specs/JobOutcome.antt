@@ -29,7 +29,7 @@ jobReply (Code length passes) = written length passes
 jobReply (Refused r) = refusalReply r
 jobReply BadJob = refused badJob 0 0
 
--- the slices that are lent: 'store bytes, result bytes, a section for each step' and 'a table of marks'
+-- the slices that are lent: 'store bytes, .. result bytes, a section for each step and a table of .. marks'
 pub record LentSlices : Type 0 where
   pub bytes : List ℕ
   pub words : List ℕ
@@ -45,7 +45,7 @@ pub record JobResult : Type 0 where
   pub reply : Reply Laid
   pub slices : LentSlices
 
--- 'counts to 0', over the lent slices
+-- 'counts to 0' (document 01, module 2), over the lent slices
 abbrev pub emptyStore : LentSlices → Store
 emptyStore lent = storeOf emptyCounts (lent .bytes) (lent .words)
 

@@ -39,13 +39,13 @@ pub enum JobRun {
 // 15: the number of a job that is none.
 const BAD_JOB: u32 = 15;
 
-// The longest refusal's text, `refused 15 at 4294967295` and a line feed.
+// The length of the longest refusal's text, `refused 15 at 4294967295` and a line feed.
 const LONGEST_REFUSAL: usize = 25;
 
-// Runs a job on lent slices and writes its text to the start of the text buffer. Refusals: 15 no job, before any call, and no slice is
-// changed; then that of the first refused call of its steps, and the slices are those of the call before it; then assembly's, 7 to 13, and
-// the table is all 0, the result as it was. A text buffer shorter than the longest text, 131,078 bytes for a result of 65,536, is tested
-// first, and nothing changes.
+// Runs a job on lent slices and writes its text to the start of the text buffer. Refusals: 15 no job, before any call, and no slice but
+// the text is changed; then that of the first refused call of its steps, and the store's slices are as the call before it left them;
+// then assembly's, 7 to 13, and the table is all 0, the result as it was. A text buffer shorter than the longest text, 131,078 bytes for
+// a result of 65,536, is tested first, and nothing changes.
 pub fn run_job(
     job: &[u8],
     bytes: &mut [u8],
