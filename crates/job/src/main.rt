@@ -2,15 +2,18 @@
 // for every input. It prints what `write_text` writes, whose contract says which bytes those are. That the input is what was read, and that
 // the text arrives, isn't proved; every function here is proved safe.
 ghost use mathlib.Core.Path.{_≡_};
-ghost use Prim.Native.Nat.{_≤_};
+ghost use Prim.Native.Nat.{_+_, _≤_};
 ghost use lib.ListN.{length};
+ghost use Rattle.jobs.specs.JobFormat.{maxJob};
 use job_text::TEXT_BYTES;
 use job_text::write_text;
 use jobs::JobRun;
 use jobs::MAX_JOB;
 
 // Room for one byte more than the longest job, so that a longer one is seen.
-fn input_buffer() -> [u8; MAX_JOB + 1] {
+fn input_buffer() -> [u8; MAX_JOB + 1]
+    ensures { λ r. ⌜ maxJob + 1 ≡ length r ⌝ }
+{
     [0u8; MAX_JOB + 1]
 }
 
