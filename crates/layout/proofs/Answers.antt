@@ -6,14 +6,13 @@ use mathlib.Core.Bool.{Bool, true, false}
 use mathlib.Core.Logic.{_↔_, _⊎_, inl, inr}
 use mathlib.Core.List.{List}
 use lib.ListN.{length}
-use borrow.Author.Tests.{lt-ltb, le-ltb}
 use Rattle.units.specs.Replies.{maxPasses}
 use Rattle.records.specs.Sections.{Section}
 use Rattle.layout.specs.Passes.{start, Walked, through, leftAt, pass, Settling, settled, narrowAt, unsettled, ended, passes, settle}
 use Rattle.layout.specs.Conditions.{first, IsFirst, Never, shortAt, firstShort, unplacedAt, firstUnplaced, apartAt, firstApart, backwardAt, firstBackward, Moving, PassGoes, Means}
 use Rattle.layout.specs.Answer.{LayoutRefusal, shortTable, unplaced, placedApart, tooNarrow, backward, Answer, laidOut, noLayout}
 use Rattle.layout.specs.Answer.{unsettled as unsettledAnswer, orElse, settlingAnswer, answer, Sound, Says}
-use Rattle.layout.proofs.Least.{first-law, never-law, first-or-never}
+use Rattle.layout.proofs.Least.{first-law, first-or-never, first-hit, first-miss}
 
 -- ---- settled, 10, 11
 
@@ -147,17 +146,13 @@ backward-law table ss = first-law ss (backwardAt table ss)
 
 -- ---- the whole answer
 
--- the refusal of a first section; or what comes next, if there is none
+-- the refusal of a first section
 hit : (ss : List Section) (test : ℕ → Bool) (refusal : ℕ → LayoutRefusal) (next : Answer) (i : ℕ) → IsFirst ss test i → orElse ss (first ss test) refusal next ≡ noLayout (refusal i)
-hit ss test refusal next i h =
-    let q = first-law ss test i .1 h in
-    rw (q .0, lt-ltb i (length ss) (q .1))
+hit ss test refusal next i h = first-hit ss test (λ j. noLayout (refusal j)) next i h
 
 -- what comes next, if there is none
 miss : (ss : List Section) (test : ℕ → Bool) (refusal : ℕ → LayoutRefusal) (next : Answer) → Never ss test → orElse ss (first ss test) refusal next ≡ next
-miss ss test refusal next h =
-    let q = never-law ss test .1 h in
-    rw (le-ltb (first ss test) (length ss) (omega arith))
+miss ss test refusal next h = first-miss ss test (λ j. noLayout (refusal j)) next h
 
 module _ (n : ℕ) (ss : List Section) where
   -- where 7, 8 and 9 aren't answered, the settling is

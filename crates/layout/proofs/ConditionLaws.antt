@@ -114,7 +114,7 @@ module _ (ss : List Section) where
 -- ---- 9
 
 -- a section has bytes
-bytes-law : (s : Section) → (hasBytes s ≡ true) ↔ HasBytes s
+pub bytes-law : (s : Section) → (hasBytes s ≡ true) ↔ HasBytes s
 bytes-law (mark m) = (λ h. absurd (false≢true h), λ h. absurd h)
 bytes-law (ops bs) = (ltb-true 0 (length bs), lt-ltb 0 (length bs))
 bytes-law (bytes bs) = (ltb-true 0 (length bs), lt-ltb 0 (length bs))

@@ -2,12 +2,12 @@
 use Prim.Native.Nat.{ℕ, _≤_, _<_}
 use native.Mathlib.Omega.{arith}
 use mathlib.Core.Path.{_≡_, refl, sym, _∙_}
-use mathlib.Core.Bool.{Bool, true, false, true≢false}
+use mathlib.Core.Bool.{Bool, true, false, cond, true≢false}
 use mathlib.Core.Logic.{_↔_, _⊎_, inl, inr}
 use mathlib.Core.List.{List}
 use lib.Dec.{ltb}
 use lib.ListN.{length}
-use borrow.Author.Tests.{ltb-false, ltb-true}
+use borrow.Author.Tests.{ltb-false, ltb-true, lt-ltb, le-ltb}
 use Rattle.slices.specs.First.{leastFrom, IsLeast}
 use Rattle.slices.proofs.First.{leastFrom-least, search-hit, search-done}
 use Rattle.records.specs.Sections.{Section}
@@ -46,6 +46,18 @@ module _ (ss : List Section) (test : ℕ → Bool) where
       go : (q : Bool) → ltb (first ss test) (length ss) ≡ q → ((i : ℕ) × IsFirst ss test i) ⊎ Never ss test
       go true e = inl (first ss test, first-law (first ss test) .0 (refl, ltb-true (first ss test) (length ss) e))
       go false e = inr (none-first (ltb-false (first ss test) (length ss) e))
+
+  -- a choice by it: what goes with the first section that has the property
+  pub first-hit : {A : Type 0} (here : ℕ → A) (next : A) (i : ℕ) → IsFirst ss test i → cond (ltb (first ss test) (length ss)) (here (first ss test)) next ≡ here i
+  first-hit here next i h =
+      let q = first-law i .1 h in
+      rw (q .0, lt-ltb i (length ss) (q .1))
+
+  -- or, if there is none, what comes next
+  pub first-miss : {A : Type 0} (here : ℕ → A) (next : A) → Never ss test → cond (ltb (first ss test) (length ss)) (here (first ss test)) next ≡ next
+  first-miss here next h =
+      let q = never-law .1 h in
+      rw (le-ltb (first ss test) (length ss) (omega arith))
 
 -- no number below n has a property
 pub none-below : (n : ℕ) (test : ℕ → Bool) (j : ℕ) → someBelow n test ≡ false → j < n → test j ≡ false

@@ -14,3 +14,4 @@ pub mod Demand3
 pub mod Tight
 pub mod Apart
 pub mod ConditionLaws
+pub mod Places

@@ -9,7 +9,7 @@ use mathlib.Core.Logic.{_⊎_, inl, inr}
 use lib.Dec.{eqb, leb}
 use lib.ListN.{length, set, replicate, length-set, length-replicate, getD-replicate}
 use lib.Seq.{getD-set-same, getD-set-other}
-use borrow.Author.Tests.{eqb-true, eqb-false, eq-eqb, ne-eqb, leb-false, leb-true, not-true}
+use borrow.Author.Tests.{eqb-true, eqb-false, eq-eqb, ne-eqb, leb-false, leb-true, not-true, not-false}
 use Rattle.units.specs.Reference.{leastSize}
 use Rattle.units.specs.declared.MarkReference.{MarkReference}
 use Rattle.units.specs.declared.MarkReference.the-variants.{Direct, Delta}
@@ -140,32 +140,23 @@ some-same n f g (Delta s) same h =
     rw (same (s .start .0) (leb-false n (s .start .0) (q .0)), same (s .end .0) (leb-false n (s .end .0) (q .1)))
 
 -- so on a section
-names-same : (n : ℕ) (f g : ℕ → Bool) (s : Section) → ((m : ℕ) → m < n → f m ≡ g m) → namesSome (leb n) s ≡ false → namesSome f s ≡ namesSome g s
+pub names-same : (n : ℕ) (f g : ℕ → Bool) (s : Section) → ((m : ℕ) → m < n → f m ≡ g m) → namesSome (leb n) s ≡ false → namesSome f s ≡ namesSome g s
 names-same n f g (mark m) same h = refl
 names-same n f g (ops bs) same h = refl
 names-same n f g (bytes bs) same h = refl
 names-same n f g (reference r) same h = some-same n f g (r .«mark_ref») same h
 
--- a mark's entry is 0
-abbrev pub zeroAt : List ℕ → ℕ → Bool
-zeroAt table m = eqb (entry table m) 0
+module _ (n : ℕ) (ss : List Section) (inTable : Never ss (shortAt n ss)) where
+  -- and on each section, where 7 never holds
+  named-same : (f g : ℕ → Bool) → ((m : ℕ) → m < n → f m ≡ g m) → (i : ℕ) → i < length ss → namesSome f (sectionAt ss i) ≡ namesSome g (sectionAt ss i)
+  unfolding shortAt
+  named-same f g same i l =
+      names-same n f g (sectionAt ss i) same (or-false (placesSome (leb n) (sectionAt ss i)) (namesSome (leb n) (sectionAt ss i)) (inTable i l) .1)
 
-module _ (n : ℕ) (ss : List Section) (table : List ℕ) (is : table ≡ firstSums n ss) (inTable : Never ss (shortAt n ss)) where
-  -- 8 of one section, by its entries
-  unplaced-at : (i : ℕ) → i < length ss → namesSome (zeroAt table) (sectionAt ss i) ≡ unplacedAt ss i
-  unfolding unplacedAt shortAt
-  unplaced-at i l =
-      names-same n (zeroAt table) (λ m. not (placed ss m)) (sectionAt ss i) (λ m k. ap (λ (x : List ℕ). zeroAt x m) is ∙ entry-unplaced n ss m k)
-      (or-false (placesSome (leb n) (sectionAt ss i)) (namesSome (leb n) (sectionAt ss i)) (inTable i l) .1)
-
-  -- as the code tests it
-  pub unplaced-test : (i : ℕ) (x : StoredSection) → Turn ss i x → unplacedWords table x ≡ unplacedAt ss i
-  unplaced-test i x t = unplaced-words table (t .words) ∙ unplaced-at i (t .below)
-
-  -- where no entry is 0, it is never said
-  pub all-placed : length table ≡ n → allPlaced table ≡ true → length ss ≡ firstUnplaced ss
-  unfolding firstUnplaced allPlaced shortAt
-  all-placed long h = sym (never-law ss (unplacedAt ss) .1 never)
+  -- where every mark below n is placed, 8 is never said
+  pub none-unplaced : ((m : ℕ) → m < n → placed ss m ≡ true) → length ss ≡ firstUnplaced ss
+  unfolding firstUnplaced unplacedAt
+  none-unplaced all = sym (never-law ss (unplacedAt ss) .1 never)
     where
       none : (s : Section) → namesSome (λ m. false) s ≡ false
       none (mark m) = refl
@@ -177,14 +168,30 @@ module _ (n : ℕ) (ss : List Section) (table : List ℕ) (is : table ≡ firstS
           none-mark (Direct m) = refl
           none-mark (Delta s) = refl
 
-      above-zero : (m : ℕ) → m < n → zeroAt table m ≡ false
-      above-zero m l = none-below (length table) (zeroAt table) m (not-true _ h) (omega arith)
-
       never : Never ss (unplacedAt ss)
-      never i l =
-          sym (unplaced-at i l)
-          ∙ names-same n (zeroAt table) (λ m. false) (sectionAt ss i) above-zero (or-false (placesSome (leb n) (sectionAt ss i)) (namesSome (leb n) (sectionAt ss i)) (inTable i l) .1)
-          ∙ none (sectionAt ss i)
+      never i l = named-same (λ m. not (placed ss m)) (λ m. false) (λ m k. ap not (all m k)) i l ∙ none (sectionAt ss i)
+
+-- a mark's entry is 0
+abbrev pub zeroAt : List ℕ → ℕ → Bool
+zeroAt table m = eqb (entry table m) 0
+
+module _ (n : ℕ) (ss : List Section) (table : List ℕ) (is : table ≡ firstSums n ss) (inTable : Never ss (shortAt n ss)) where
+  -- an entry of the table
+  zero-unplaced : (m : ℕ) → m < n → zeroAt table m ≡ not (placed ss m)
+  zero-unplaced m l = ap (λ (x : List ℕ). zeroAt x m) is ∙ entry-unplaced n ss m l
+
+  -- 8 of one section, as the code tests it
+  pub unplaced-test : (i : ℕ) (x : StoredSection) → Turn ss i x → unplacedWords table x ≡ unplacedAt ss i
+  unfolding unplacedAt
+  unplaced-test i x t = unplaced-words table (t .words) ∙ named-same n ss inTable (zeroAt table) (λ m. not (placed ss m)) zero-unplaced i (t .below)
+
+  -- where no entry is 0, it is never said
+  pub all-placed : length table ≡ n → allPlaced table ≡ true → length ss ≡ firstUnplaced ss
+  unfolding allPlaced
+  all-placed long h = none-unplaced n ss inTable all
+    where
+      all : (m : ℕ) → m < n → placed ss m ≡ true
+      all m l = not-false _ (sym (zero-unplaced m l) ∙ none-below (length table) (zeroAt table) m (not-true _ h) (omega arith))
 
 -- ---- 9
 

@@ -7,3 +7,6 @@ pub mod SettleAnswers
 pub mod Decoded
 pub mod TightSettling
 pub mod SettlingLaw
+pub mod SettlingLeaves
+pub mod SettlingShortest
+pub mod SettleKept

@@ -99,14 +99,19 @@ module _ {x : StoredSection} where
   short-words n (delta-words l s p g) =
       rw (ne-eqb (x .kind) markKind (λ e. omega arith), lt-ltb dataKind (x .kind) (omega arith), lt-ltb directKind (x .kind) l) (simp and-true)
 
+  -- a mark with a property that a section names
+  pub named-words : (test : ℕ → Bool) {s : Section} → Words x s
+      → (leb directKind (x .kind) && (test (x .first) || ltb directKind (x .kind) && test (x .second))) ≡ namesSome test s
+  named-words test (mark-words f) = rw f
+  named-words test (ops-words f l bs d) = rw f
+  named-words test (data-words f l bs d) = rw f
+  named-words test (direct-words f s p g) = rw f (simp or-false)
+  named-words test (delta-words l s p g) = rw (le-leb directKind (x .kind) (omega arith), lt-ltb directKind (x .kind) l)
+
   -- 8
   pub unplaced-words : (table : List ℕ) {s : Section} → Words x s → unplacedWords table x ≡ namesSome (λ m. eqb (entry table m) 0) s
   unfolding unplacedWords
-  unplaced-words table (mark-words f) = rw f
-  unplaced-words table (ops-words f l bs d) = rw f
-  unplaced-words table (data-words f l bs d) = rw f
-  unplaced-words table (direct-words f s p g) = rw f (simp or-false)
-  unplaced-words table (delta-words l s p g) = rw (le-leb directKind (x .kind) (omega arith), lt-ltb directKind (x .kind) l)
+  unplaced-words table w = named-words (λ m. eqb (entry table m) 0) w
 
   -- 12
   pub backward-words : (table : List ℕ) {s : Section} → Words x s → backwardWords table x ≡ refers (backwardBy table) s

@@ -106,7 +106,7 @@ stored-is w st u =
 -- ---- sums
 
 -- one more section
-sum-next : (f : Section → ℕ) (ss : List Section) (i : ℕ) → i < length ss → sumOf f (take (i + 1) ss) ≡ sumOf f (take i ss) + f (sectionAt ss i)
+pub sum-next : (f : Section → ℕ) (ss : List Section) (i : ℕ) → i < length ss → sumOf f (take (i + 1) ss) ≡ sumOf f (take i ss) + f (sectionAt ss i)
 unfolding sumOf
 sum-next f ss i l = rw (add-one i) (go ss i l)
   where

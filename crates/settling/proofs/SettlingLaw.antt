@@ -4,6 +4,7 @@ use mathlib.Core.Path.{_≡_, refl, sym, ap, _∙_, subst}
 use mathlib.Core.Bool.{false, cond}
 use mathlib.Core.Logic.{_↔_}
 use lib.Dec.{eqb}
+use Rattle.units.specs.Replies.{tooNarrow}
 use Rattle.units.specs.Reply.{Reply, accepted, refused}
 use Rattle.records.specs.Store.{Store}
 use Rattle.records.specs.Sections.{decode}
@@ -12,8 +13,9 @@ use Rattle.records.specs.declared.damage.Soundness.{Soundness}
 use Rattle.records.specs.declared.damage.Soundness.the-variants as soundness
 use Rattle.undamaged.specs.View.{Undamaged}
 use Rattle.undamaged.proofs.Soundness.{damaged-at-iff}
+use Rattle.layout.specs.Passes.{settled, narrowAt, settle}
 use Rattle.layout.specs.Answer as layout
-use Rattle.layout.proofs.Answers.{answer-law}
+use Rattle.layout.proofs.Answers.{settle-law, answer-law}
 use Rattle.settling.specs.Settle.{Settlement, settlement, settling}
 use Rattle.settling.specs.SettlingAnswers.{SettlingAnswer, laidOut, damaged, noLayout, settlingReply, SettlingSays}
 
@@ -99,3 +101,16 @@ module _ (w n : ℕ) (st : Store) where
         subst (SettlingSays w st n) (sym (answer-back (settling-said .0)) ∙ ap answerOf same ∙ answer-back a) (settling-said .1),
     says-replied a,
   )
+
+  -- laid out: the passes' table, length and count
+  pub laid-settled : (laid : layout.Laid) → settling w n st .reply ≡ accepted laid
+      → settle n (decode w st) ≡ settled (settling w n st .table) (laid .length) (laid .passes)
+  laid-settled laid h =
+      let (table, u, says) = settling-law (laidOut (laid .length) (laid .passes)) .0 h in
+      let is = sound-answered (layout.laidOut table (laid .length) (laid .passes)) u says in
+      settle-law n (decode w st) (settled table (laid .length) (laid .passes)) .1 (says .1)
+      ∙ ap (λ (s : Settlement). settled (s .table) (laid .length) (laid .passes)) (sym is)
+
+  -- 10: the passes' section and count
+  pub narrow-settled : (i k : ℕ) → settling w n st .reply ≡ refused tooNarrow i k → settle n (decode w st) ≡ narrowAt i k
+  narrow-settled i k h = settle-law n (decode w st) (narrowAt i k) .1 (settling-law (noLayout (layout.tooNarrow i k)) .0 h .1 .1)

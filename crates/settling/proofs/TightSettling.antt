@@ -2,16 +2,13 @@
 use Prim.Native.Nat.{ℕ}
 use native.Mathlib.Omega.{arith}
 use mathlib.Core.Path.{_≡_, refl, sym, subst}
-use mathlib.Core.List.{List}
 use Rattle.units.specs.Replies.{damaged}
-use Rattle.units.specs.Reply.{Reply}
 use Rattle.records.specs.Store.{Store}
 use Rattle.records.specs.Damage.{wholeSoundness}
 use Rattle.records.specs.Sections.{decode}
 use Rattle.records.specs.declared.damage.Soundness.{Soundness}
 use Rattle.records.specs.declared.damage.Soundness.the-variants.{Sound, Damaged}
 use Rattle.undamaged.proofs.Soundness.{undamaged-iff}
-use Rattle.layout.specs.Answer.{Laid}
 use Rattle.layout.specs.Tight.{Decides}
 use Rattle.layout.proofs.Tight.{least-other, answer-least, answer-decides}
 use Rattle.settling.specs.Settle.{Settlement, settling}
@@ -40,20 +37,3 @@ module _ (w : ℕ) (st : Store) (n : ℕ) where
           let small = stored-small w st (undamaged-iff w st .0 e) in
           subst (λ (s : Settlement). SettlesLeast w st (s .reply) (s .table)) (sym (settles-as w n st Sound e))
           (answer-least n (decode w st) small) direct
-
-  -- the contract of `settle`, of a reply and a table that are the defined ones
-  pub settles-tight : {reply : Reply Laid} {table′ : List ℕ} → reply ≡ settling w n st .reply → table′ ≡ settling w n st .table
-      → (reply ≡ settling w n st .reply)
-      × ((table′ ≡ settling w n st .table)
-      × (SettlesWithin w st n reply
-      × SettlesLeast w st reply table′))
-  settles-tight {reply} {table′} said left = (
-    said,
-    (
-      left,
-      (
-        subst (SettlesWithin w st n) (sym said) settling-within,
-        subst (λ (r : Reply Laid). SettlesLeast w st r table′) (sym said) (subst (SettlesLeast w st (settling w n st .reply)) (sym left) settling-least),
-      ),
-    ),
-  )

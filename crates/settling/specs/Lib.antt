@@ -1,4 +1,6 @@
 pub mod Settle
 pub mod SettlingAnswers
 pub mod SectionWalk
+pub mod SettlingLeaves
+pub mod SettlingShortest
 pub mod TightSettling

@@ -1,5 +1,6 @@
--- What the private functions of settling go by: the store that they are lent, a section by its three words, the table of first placings,
--- and the passes' reply. proofs/ has that each is what layout/specs says of the decoded sections. Assumes nothing.
+-- What the functions inside settling go by, and those of `tables` and of the writer of code: the store that they are lent, a section by its
+-- three words, the table of first placings, and the passes' reply. proofs/ has that each is what layout/specs says of the decoded sections.
+-- Assumes nothing.
 use Prim.Native.Nat.{ℕ, _+_, _-_, _≤_, _<_}
 use mathlib.Core.Path.{_≡_}
 use mathlib.Core.Bool.{Bool, false, cond, not, _&&_, _||_}

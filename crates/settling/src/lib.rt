@@ -13,7 +13,9 @@ use crate::table::place;
 use records::Assembler;
 use records::Soundness;
 use records::check_store;
+pub use search::is_short;
 pub use table::clear;
+pub use table::earlier;
 use units::Refusal;
 ghost use mathlib.Core.Path.{_≡_};
 ghost use lib.ListN.{length, replicate};
@@ -24,10 +26,12 @@ ghost use Rattle.layout.specs.Conditions.{Never, deltaAt};
 ghost use Rattle.layout.specs.Answer.{answer, answerReply, answerTable};
 ghost use Rattle.settling.specs.SectionWalk.{sectionsOf, Whole, Fitting, lessOne, settledAnswer};
 ghost use Rattle.settling.specs.Settle.{settling, settledReply};
+ghost use Rattle.settling.specs.SettlingShortest.{SettlesDemand3};
 ghost use Rattle.settling.specs.TightSettling.{SettlesWithin, SettlesLeast};
 ghost use Rattle.settling.specs.declared.Settled.the-variants.{Refused};
 
-// Settled: the code's length in all and the passes made; or a refusal, 6 to 12, with the table all 0.
+// Laid out: the code's length in all and the passes made; or a refusal: of settling 6 to 12, with the table all 0. The tests of a table from
+// anyone (`tables`) answer in it too: 6 to 10, 12 or 16, with 0 passes and the table as it was.
 pub enum Settled {
     LaidOut { length: u32, passes: u32 },
     Refused(Refusal),
@@ -42,6 +46,9 @@ pub fn settle(store: Assembler, bytes: &[u8], words: &[u32], table: &mut [u32]) 
     ensures table { λ _.
         ⌜ now (table .exit)
         ≡ settling wordsPerSection (length (now (table .entry))) (storeOf store (now (bytes .entry)) (now (words .entry))) .table ⌝ }
+    ensures shortest { λ r.
+        ⌜ SettlesDemand3 wordsPerSection (storeOf store (now (bytes .entry)) (now (words .entry))) (length (now (table .entry)))
+        (settledReply r) (now (table .exit)) ⌝ }
     ensures within { λ r.
         ⌜ SettlesWithin wordsPerSection (storeOf store (now (bytes .entry)) (now (words .entry))) (length (now (table .entry)))
         (settledReply r) ⌝ }

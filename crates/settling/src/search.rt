@@ -21,7 +21,7 @@ fn is_past(mark: MarkId, limit: usize) -> bool
 }
 
 // 7, for one section. It goes by kinds as `place` does, so that the two are compiled to the same branches.
-pub(crate) fn is_short(section: StoredSection, limit: usize) -> bool
+pub fn is_short(section: StoredSection, limit: usize) -> bool
     ensures { λ r. ⌜ r ≡ shortWords limit section ⌝ }
 {
     if section.kind == kind::MARK {

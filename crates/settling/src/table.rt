@@ -41,7 +41,7 @@ fn place_mark(table: &mut [u32], mark: MarkId, sum: u32) -> bool
 }
 
 // The earlier of what was found and i, if i is one.
-fn earlier(found: u32, i: u32, is_one: bool) -> u32
+pub fn earlier(found: u32, i: u32, is_one: bool) -> u32
     ensures { λ r. ⌜ r ≡ cond «is_one» (cond (ltb i found) i found) found ⌝ }
 {
     if !is_one {

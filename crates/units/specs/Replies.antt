@@ -1,10 +1,10 @@
--- Document 01, 'Replies': the number, section and passes of each refusal.
+-- Document 01, 'Replies', and document 02, request 3 (16): the number, section and passes of each refusal.
 -- Contracts of the calls speak of an answer through these definitions. Assumes nothing.
 use Prim.Native.Nat.{ℕ}
 use Rattle.units.specs.declared.reply.Refusal.{Refusal}
 use Rattle.units.specs.declared.reply.Refusal.the-variants.{BadDepth, BadWord, LargeMark, BytesFull, SectionsFull}
 use Rattle.units.specs.declared.reply.Refusal.the-variants.{Damaged, ShortTable, Unplaced, PlacedApart, TooNarrow}
-use Rattle.units.specs.declared.reply.Refusal.the-variants.{Unsettled, Backward, ResultFull, ListingFull}
+use Rattle.units.specs.declared.reply.Refusal.the-variants.{Unsettled, Backward, ResultFull, ListingFull, EntryDiffers}
 
 -- the numbers of the table of replies, by its names
 abbrev pub badDepth : ℕ
@@ -49,6 +49,10 @@ resultFull = 13
 abbrev pub listingFull : ℕ
 listingFull = 14
 
+-- document 02, request 3: 'an entry that differs'
+abbrev pub entryDiffers : ℕ
+entryDiffers = 16
+
 -- the passes allowed; those made when number 11 is given
 abbrev pub maxPasses : ℕ
 maxPasses = 1024
@@ -79,3 +83,4 @@ refusalNumbers Unsettled = numbersAt unsettled 0 maxPasses
 refusalNumbers (Backward i k) = numbersAt backward i k
 refusalNumbers (ResultFull k) = numbersAt resultFull 0 k
 refusalNumbers ListingFull = numbersAt listingFull 0 0
+refusalNumbers (EntryDiffers i) = numbersAt entryDiffers i 0

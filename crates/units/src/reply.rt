@@ -1,4 +1,5 @@
-// Document 01, 'Replies': every refusal as a case of one enum, with the section and the passes that differ from call to call.
+// Document 01, 'Replies', and document 02, request 3 (16): every refusal as a case of one enum, with the section and the passes that differ
+// from call to call.
 // The definition `refusalNumbers` gives each case its number, section and passes; the functions below are the same for programs.
 ghost use mathlib.Core.Path.{_≡_};
 ghost use Rattle.units.specs.Replies.{refusalNumbers};
@@ -19,6 +20,7 @@ pub enum Refusal {
     Backward { section: u32, passes: u32 },
     ResultFull { passes: u32 },
     ListingFull,
+    EntryDiffers { section: u32 },
 }
 
 impl Refusal {
@@ -47,6 +49,7 @@ impl Refusal {
             } => 12,
             Refusal::ResultFull { passes: _ } => 13,
             Refusal::ListingFull => 14,
+            Refusal::EntryDiffers { section: _ } => 16,
         }
     }
 
@@ -69,6 +72,7 @@ impl Refusal {
             Refusal::Backward { section, passes: _ } => section,
             Refusal::ResultFull { passes: _ } => 0,
             Refusal::ListingFull => 0,
+            Refusal::EntryDiffers { section } => section,
         }
     }
 
@@ -91,6 +95,7 @@ impl Refusal {
             Refusal::Backward { section: _, passes } => passes,
             Refusal::ResultFull { passes } => passes,
             Refusal::ListingFull => 0,
+            Refusal::EntryDiffers { section: _ } => 0,
         }
     }
 }

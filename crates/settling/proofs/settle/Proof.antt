@@ -11,7 +11,7 @@ use Rattle.records.specs.Damage.{wholeSoundness}
 use Rattle.layout.specs.Answer.{answer, answerReply, answerTable}
 use Rattle.settling.specs.Settle.{Settlement}
 use Rattle.settling.proofs.SettleAnswers.{settles-as}
-use Rattle.settling.proofs.TightSettling.{settles-tight}
+use Rattle.settling.proofs.SettleKept.{settles-kept}
 use Rattle.settling.proofs.settle.Statement.{statement}
 use Rattle.settling.proofs.settle.Tie as tie
 
@@ -55,7 +55,7 @@ returns : tie.Need-returns
 returns c =
     let test = c .before .before .before in
     let is = settles-as wordsPerSection _ _ _ (tested test ∙ c .before .section .given .1) in
-    settles-tight wordsPerSection _ _
+    settles-kept wordsPerSection _ _
     (ap (λ (s : Settlement). s .reply) (sym is))
     (cleared test .clear .ensures ∙ ap (λ (s : Settlement). s .table) (sym is))
 
@@ -70,7 +70,7 @@ returns-2 c =
     let long = cleared test .clear .kept .0 in
     let ss = decode wordsPerSection (store-at (entry (cleared test))) in
     let is = settles-as wordsPerSection _ _ _ (tested test ∙ told .enum-told .given .1) in
-    settles-tight wordsPerSection _ _
+    settles-kept wordsPerSection _ _
     (settled .settle-whole .ensures .0 ∙ ap (λ (n : ℕ). answerReply (answer n ss)) long ∙ ap (λ (s : Settlement). s .reply) (sym is))
     (settled .settle-whole .ensures .1 ∙ ap (λ (n : ℕ). answerTable n (answer n ss)) long ∙ ap (λ (s : Settlement). s .table) (sym is))
 
