@@ -1,0 +1,4 @@
+pub mod TableTests
+pub mod TableAnswers
+pub mod MarkMap
+pub mod TableWalk
