@@ -22,15 +22,24 @@ use Rattle.undamaged.proofs.Soundness.{undamaged-iff, damaged-at-iff}
 use Rattle.layout.specs.Passes.{entry, valueBy, Walked, leftAt, walkFrom, pass}
 use Rattle.layout.specs.Answer as layout
 use Rattle.layout.specs.Answer.{laidOut, noLayout, Says}
-use Rattle.settling.specs.Settle.{settlement}
+use Rattle.settling.specs.Settle.{settling}
+use Rattle.settling.specs.SettlingAnswers as settled
+use Rattle.settling.specs.SettlingAnswers.{SettlingAnswer, settlingReply, SettlingSays}
+use Rattle.tables.specs.TableTests as tests
+use Rattle.tables.specs.TableAnswers.{TableSays}
+use Rattle.tables.proofs.TableLaws.{accepts-still}
 use Rattle.settling.proofs.Sections.{decode-count}
-use Rattle.assembler.proofs.Places.{still-sum, sizes-five}
+use Rattle.layout.proofs.Places.{still-sum, sizes-five}
 use Rattle.assembler.specs.Assemble.{assembly}
 use Rattle.assembler.specs.AssemblyAnswers as answer
 use Rattle.assembler.specs.AssemblyAnswers.{AssemblyAnswer, assemblyReply, AnswerSays}
 use Rattle.settling.proofs.Decoded.{stored-small}
-use Rattle.settling.proofs.SettlingLaw.{sound-answered}
+use Rattle.settling.proofs.SettlingLaw.{sound-answered, settling-answers, settling-law}
+use Rattle.assembler.specs.Write.{writeBy}
+use Rattle.assembler.specs.WriteAnswers as wrote
+use Rattle.assembler.specs.WriteAnswers.{WriteAnswer, writeReply, WriteSays}
 use Rattle.assembler.proofs.Laid.{laid}
+use Rattle.assembler.proofs.WriteLaws.{write-answers, write-law}
 use Rattle.assembler.proofs.AssemblyAnswers.{assembly-answers, assembly-law}
 use Rattle.listing.specs.Listing.{listing}
 use Rattle.listing.specs.Answer.{replyFor, listingReply}
@@ -38,7 +47,7 @@ use Rattle.listing.proofs.Every.{listing-short}
 use Rattle.numbers.proofs.Bounds.{whole-section}
 use Rattle.answers.specs.Numbers.{AssembledPacks, ListedPacks}
 
--- ---- assembly
+-- ---- settling and assembly
 
 -- a walk is left at one of the sections
 walk-below : (ss : List Section) (i sum : ℕ) (moved : Bool) (table : List ℕ) (j : ℕ) → walkFrom ss i sum moved table ≡ leftAt j → j < i + length ss
@@ -78,13 +87,24 @@ module _ (w : ℕ) (st : Store) (n : ℕ) where
       let l = laid w n st table size k settles in
       omega (arith, still-sum (entry table) (decode w st) 0 size (l .still), sizes-five (entry table) (decode w st), stored-small w st (l .facts))
 
+  -- each answer of settling in its condition
+  settled-packs : (a : SettlingAnswer) → SettlingSays w st n a → AssembledPacks (settlingReply a)
+  settled-packs (settled.laidOut size k) h =
+      let says = h .2 in
+      (omega arith, omega (arith, says .1 .3), code-below (h .0) size k (h .1) says)
+  settled-packs (settled.damaged i) h = (omega arith, (omega arith, omega arith, whole-section w st i (damaged-at-iff w st i .1 h)))
+  settled-packs (settled.noLayout r) h = layout-packs n (decode w st) r (sections-below (h .0)) (h .1)
+
+  pub settling-packs : AssembledPacks (settling w n st .reply)
+  settling-packs =
+      let given = settling-answers w n st in
+      subst AssembledPacks (sym (given .1)) (settled-packs (given .0) (settling-law w n st (given .0) .0 (given .1)))
+
   -- each answer of assembly in its condition
   says-packs : (room position : ℕ) (a : AssemblyAnswer) → AnswerSays w st n room position a → AssembledPacks (assemblyReply a)
-  says-packs room position (answer.written size k) h =
-      let says = h .0 .2 in
-      (omega arith, omega (arith, says .1 .3), code-below (h .0 .0) size k (h .0 .1) says)
-  says-packs room position (answer.damaged i) h = (omega arith, (omega arith, omega arith, whole-section w st i (damaged-at-iff w st i .1 h)))
-  says-packs room position (answer.noLayout r) h = layout-packs n (decode w st) r (sections-below (h .0)) (h .1)
+  says-packs room position (answer.written size k) h = settled-packs (settled.laidOut size k) (h .0)
+  says-packs room position (answer.damaged i) h = settled-packs (settled.damaged i) h
+  says-packs room position (answer.noLayout r) h = settled-packs (settled.noLayout r) h
   says-packs room position (answer.resultFull k) h =
       let says = h .1 .2 in
       (omega arith, (omega arith, omega (arith, says .1 .3), omega arith))
@@ -94,6 +114,37 @@ module _ (w : ℕ) (st : Store) (n : ℕ) where
       let given = assembly-answers w st n result position in
       let says = assembly-law w st n result position (given .0) .0 (given .1) in
       subst AssembledPacks (sym (given .1)) (says-packs (length result) position (given .0) says)
+
+-- ---- the write
+
+-- a refusal of a table over at most 2^32 - 1 sections
+table-packs : (table : List ℕ) (ss : List Section) (r : tests.TableRefusal) → length ss < 2 ^ 32 → TableSays table ss (tests.refuses r)
+    → AssembledPacks (numbersReply (tests.tableNumbers r))
+table-packs table ss (tests.shortTable i) l h = (omega arith, (omega arith, omega arith, omega (arith, h .0)))
+table-packs table ss (tests.unplaced i) l h = (omega arith, (omega arith, omega arith, omega (arith, h .1 .0)))
+table-packs table ss (tests.placedApart i) l h = (omega arith, (omega arith, omega arith, omega (arith, h .2 .0)))
+table-packs table ss (tests.differs i) l h = (omega arith, (omega arith, omega arith, omega (arith, h .1 .1 .0)))
+table-packs table ss (tests.tooNarrow i) l h = (omega arith, (omega arith, omega arith, omega (arith, h .1 .0)))
+table-packs table ss (tests.backward i) l h = (omega arith, (omega arith, omega arith, omega (arith, h .3 .0)))
+
+module _ (w : ℕ) (st : Store) (table : List ℕ) where
+  -- the length of a code by an accepted table
+  written-below : (size : ℕ) → Undamaged w st → TableSays table (decode w st) (tests.accepts size) → size < 2 ^ 32
+  written-below size u says =
+      omega (arith, still-sum (entry table) (decode w st) 0 size (accepts-still table (decode w st) size says), sizes-five (entry table) (decode w st), stored-small w st (undamaged-iff w st .0 u))
+
+  -- each answer of a write in its condition
+  wrote-packs : (room position : ℕ) (a : WriteAnswer) → WriteSays w st table room position a → AssembledPacks (writeReply a)
+  wrote-packs room position (wrote.written size) h = (omega arith, omega arith, written-below size (h .0 .0) (h .0 .1))
+  wrote-packs room position (wrote.damaged i) h = (omega arith, (omega arith, omega arith, whole-section w st i (damaged-at-iff w st i .1 h)))
+  wrote-packs room position (wrote.refuses r) h = table-packs table (decode w st) r (sections-below w st 0 (h .0)) (h .1)
+  wrote-packs room position wrote.resultFull h = (omega arith, (omega arith, omega arith, omega arith))
+
+  pub write-packs : (result : List ℕ) (position : ℕ) → AssembledPacks (writeBy w st table result position .reply)
+  write-packs result position =
+      let given = write-answers w st table result position in
+      let says = write-law w st table result position (given .0) .0 (given .1) in
+      subst AssembledPacks (sym (given .1)) (wrote-packs (length result) position (given .0) says)
 
 -- ---- listings
 

@@ -1,15 +1,15 @@
--- The answers of assembly and of a listing as one number each. Assumes nothing.
+-- The answers of settling, of a write, of assembly and of a listing as one number each. Assumes nothing.
 use Prim.Native.Nat.{ℕ, _^_, _<_}
 use Rattle.units.specs.Reply.{Reply}
 use Rattle.layout.specs.Answer.{Laid}
 use Rattle.numbers.specs.Numbers.{packed, midIn, lowIn, replyNumber, replyIn}
 use Rattle.numbers.specs.Packs.{Packs, ReplyPacks}
 
--- an accepted assembly: passes and length
+-- accepted by settling, a write or assembly: passes and length
 abbrev pub laidNumber : Laid → ℕ
 laidNumber laid = packed 0 (laid .passes) (laid .length)
 
--- the answer to assembly: that, or a refusal
+-- the answer to one of the three: that, or a refusal
 abbrev pub assembledNumber : Reply Laid → ℕ
 assembledNumber r = replyNumber laidNumber r
 
@@ -23,7 +23,7 @@ listedNumber r = replyNumber (λ size. size) r
 abbrev pub LaidPacks : Laid → Type 0
 LaidPacks laid = Packs 0 (laid .passes) (laid .length)
 
--- an answer to assembly
+-- an answer to one of the three
 abbrev pub AssembledPacks : Reply Laid → Type 0
 AssembledPacks r = ReplyPacks LaidPacks r
 
@@ -41,7 +41,7 @@ ListedPacks r = ReplyPacks TextPacks r
 abbrev pub laidIn : ℕ → Laid
 laidIn answer = record { length = lowIn answer; passes = midIn answer }
 
--- the reply to assembly
+-- the reply to one of the three
 abbrev pub assembledIn : ℕ → Reply Laid
 assembledIn answer = replyIn laidIn answer
 

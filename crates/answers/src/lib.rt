@@ -1,16 +1,22 @@
-// Assembly and the listing by a state's number, each answered by one number.
+// Settling, the write, assembly and the listing by a state's number, each answered by one number.
 use assembler::Assembled;
 use listing::Listed;
 use numbers::SECTION;
 use numbers::counts_in;
 use numbers::refusal_number;
+use settling::Settled;
 ghost use mathlib.Core.Path.{_≡_};
 ghost use lib.ListN.{length};
 ghost use Rattle.records.specs.Store.{wordsPerSection};
+ghost use Rattle.settling.specs.Settle.{settling, settledReply};
+ghost use Rattle.settling.specs.SettlingShortest.{SettlesDemand3};
+ghost use Rattle.settling.specs.TightSettling.{SettlesWithin, SettlesLeast};
 ghost use Rattle.assembler.specs.Assemble.{assembledReply, assembly};
 ghost use Rattle.assembler.specs.Demand3.{Demand3};
 ghost use Rattle.assembler.specs.Instructions.{CodePushes};
 ghost use Rattle.assembler.specs.TightAssembly.{AssemblesWithin, AssemblesLeast};
+ghost use Rattle.assembler.specs.Write.{writeBy};
+ghost use Rattle.assembler.specs.Pair.{WritesDemand3, WritesEnough};
 ghost use Rattle.listing.specs.Answer.{listedReply, listingReply, listingBuffer};
 ghost use Rattle.numbers.specs.Numbers.{storeIn};
 ghost use Rattle.answers.specs.Numbers.{assembledNumber, listedNumber, AssembledPacks, ListedPacks};
@@ -52,6 +58,56 @@ pub fn assemble(
     assembled_number(assembler::assemble(counts_in(state), bytes, words, table, result, position))
 }
 
+// Settles: the code's length and passes, and the marks' offsets into the table. Refusals: 6 to 12, with the table all 0.
+pub fn settle(state: u64, bytes: &[u8], words: &[u32], table: &mut [u32]) -> u64
+    ensures reply { λ r. ⌜ r ≡ assembledNumber (settling wordsPerSection (length (now (table .entry)))
+        (storeIn state (now (bytes .entry)) (now (words .entry))) .reply) ⌝ }
+    ensures table { λ _. ⌜ now (table .exit) ≡ settling wordsPerSection (length (now (table .entry)))
+        (storeIn state (now (bytes .entry)) (now (words .entry))) .table ⌝ }
+    ensures shortest { λ _. ⌜ SettlesDemand3 wordsPerSection (storeIn state (now (bytes .entry)) (now (words .entry)))
+        (length (now (table .entry)))
+        (settling wordsPerSection (length (now (table .entry))) (storeIn state (now (bytes .entry)) (now (words .entry))) .reply)
+        (now (table .exit)) ⌝ }
+    ensures within { λ _. ⌜ SettlesWithin wordsPerSection (storeIn state (now (bytes .entry)) (now (words .entry)))
+        (length (now (table .entry)))
+        (settling wordsPerSection (length (now (table .entry))) (storeIn state (now (bytes .entry)) (now (words .entry))) .reply) ⌝ }
+    ensures least { λ _. ⌜ SettlesLeast wordsPerSection (storeIn state (now (bytes .entry)) (now (words .entry)))
+        (settling wordsPerSection (length (now (table .entry))) (storeIn state (now (bytes .entry)) (now (words .entry))) .reply)
+        (now (table .exit)) ⌝ }
+{
+    assembled_number(as_assembled(settling::settle(counts_in(state), bytes, words, table)))
+}
+
+// Writes the code into the result from the position on, by a table from anyone, which is only read. Refusals: 6 to 9, 16 or 10, 12, 13, with
+// nothing changed; passes are 0.
+pub fn write(
+    state: u64,
+    bytes: &[u8],
+    words: &[u32],
+    table: &[u32],
+    result: &mut [u8],
+    position: usize,
+) -> u64
+    ensures reply { λ r. ⌜ r ≡ assembledNumber (writeBy wordsPerSection (storeIn state (now (bytes .entry)) (now (words .entry)))
+        (now (table .entry)) (now (result .entry)) position .reply) ⌝ }
+    ensures result { λ _. ⌜ now (result .exit) ≡ writeBy wordsPerSection (storeIn state (now (bytes .entry)) (now (words .entry)))
+        (now (table .entry)) (now (result .entry)) position .result ⌝ }
+    ensures shortest { λ _. ⌜ WritesDemand3 wordsPerSection (storeIn state (now (bytes .entry)) (now (words .entry)))
+        (now (table .entry)) (now (result .entry)) position
+        (writeBy wordsPerSection (storeIn state (now (bytes .entry)) (now (words .entry)))
+        (now (table .entry)) (now (result .entry)) position .reply)
+        (now (result .exit)) ⌝ }
+    ensures enough { λ _. ⌜ WritesEnough wordsPerSection (storeIn state (now (bytes .entry)) (now (words .entry))) (now (table .entry))
+        (writeBy wordsPerSection (storeIn state (now (bytes .entry)) (now (words .entry)))
+        (now (table .entry)) (now (result .entry)) position .reply) ⌝ }
+    ensures pushes { λ _. ⌜ CodePushes wordsPerSection (storeIn state (now (bytes .entry)) (now (words .entry))) position
+        (writeBy wordsPerSection (storeIn state (now (bytes .entry)) (now (words .entry)))
+        (now (table .entry)) (now (result .entry)) position .reply)
+        (now (table .entry)) (now (result .exit)) ⌝ }
+{
+    assembled_number(assembler::write(counts_in(state), bytes, words, table, result, position))
+}
+
 // Writes the listing to the text's start. Refusals: 6, 14, with the text unchanged.
 pub fn write_asm(state: u64, bytes: &[u8], words: &[u32], text: &mut [u8]) -> u64
     ensures answer { λ r. ⌜ r ≡ listedNumber (listingReply wordsPerSection (storeIn state (now (bytes .entry)) (now (words .entry)))
@@ -62,7 +118,17 @@ pub fn write_asm(state: u64, bytes: &[u8], words: &[u32], text: &mut [u8]) -> u6
     listed_number(listing::write_asm(counts_in(state), bytes, words, text))
 }
 
-// The answer to assembly as a number.
+// What settling answered, as assembly answers it.
+fn as_assembled(settled: Settled) -> Assembled
+    ensures { λ r. ⌜ assembledReply r ≡ settledReply settled ⌝ }
+{
+    match settled {
+        Settled::LaidOut { length, passes } => Assembled::Written { length, passes },
+        Settled::Refused(refusal) => Assembled::Refused(refusal),
+    }
+}
+
+// The answer to settling, to a write or to assembly as a number.
 fn assembled_number(assembled: Assembled) -> u64
     requires { ⌜ AssembledPacks (assembledReply assembled) ⌝ }
     ensures { λ r. ⌜ r ≡ assembledNumber (assembledReply assembled) ⌝ }

@@ -16,12 +16,13 @@ use Rattle.layout.specs.Answer.{Laid}
 use Rattle.settling.specs.Settle.{settling, settledReply}
 use Rattle.settling.specs.declared.Settled.{Settled}
 use Rattle.settling.specs.declared.Settled.the-variants.{LaidOut, Refused}
+use Rattle.settling.proofs.SettlingLeaves.{refused-table}
 use Rattle.assembler.specs.Emission.{codeOf}
 use Rattle.assembler.specs.Assemble.{written, Outcome, refusal, isFull, assembly}
 use Rattle.assembler.specs.Demand3.{Demand3}
 use Rattle.assembler.specs.Instructions.{CodePushes}
 use Rattle.assembler.specs.TightAssembly.{AssemblesWithin, AssemblesLeast}
-use Rattle.assembler.proofs.Laid.{refused-table, laid}
+use Rattle.assembler.proofs.Laid.{laid}
 use Rattle.assembler.proofs.Outcomes.{LaidBy, outcome-refused, outcome-full, outcome-written, fits-law}
 use Rattle.assembler.proofs.Demand3.{demand-3-assembly}
 use Rattle.assembler.proofs.Instructions.{assembly-pushes}

@@ -1,9 +1,9 @@
 -- The law of each answer of assembly: 6 to 13 and written, each exactly in its stated condition. Assumes nothing.
-use Prim.Native.Nat.{ℕ, _+_, _<_}
+use Prim.Native.Nat.{ℕ}
 use native.Mathlib.Omega.{arith}
 use mathlib.Core.Path.{_≡_, refl, sym, ap, _∙_, subst}
 use mathlib.Core.Bool.{Bool, true, false, cond}
-use mathlib.Core.Logic.{_↔_, _⊎_, inl, inr}
+use mathlib.Core.Logic.{_↔_, inr}
 use mathlib.Core.List.{List}
 use lib.Dec.{eqb}
 use lib.ListN.{length}
@@ -19,7 +19,7 @@ use Rattle.settling.proofs.SettlingLaw.{refusalAt, refusal-back, sound-answered
 use Rattle.assembler.specs.Assemble.{Outcome, isFull, assembly}
 use Rattle.assembler.specs.AssemblyAnswers.{AssemblyAnswer, written, damaged, noLayout, resultFull, assemblyReply, AnswerSays, CodePasses}
 use Rattle.assembler.specs.Emission.{codeOf}
-use Rattle.assembler.proofs.Outcomes.{outcome-refused, outcome-full, outcome-written, fits-law, full-law}
+use Rattle.assembler.proofs.Outcomes.{outcome-refused, outcome-full, outcome-written, fits-law, full-law, either-passes}
 use Rattle.assembler.proofs.Laid.{laid}
 
 -- ---- a reply tells the answer
@@ -105,13 +105,9 @@ module _ (w : ℕ) (st : Store) (n : ℕ) (result : List ℕ) (position : ℕ) w
   unfolding answerOf
   full-exactly i k = (there, λ (z, full). back z full)
     where
-      past : (size : ℕ) → (length result < position) ⊎ (length result < position + size) → length result < position + size
-      past size (inl h) = omega arith
-      past size (inr h) = h
-
       back : i ≡ 0 → CodePasses w st n (length result) position k → assembly w st n result position .reply ≡ refused number.resultFull i k
       back z (table, code, is, u, s, h) =
-          says-replied (resultFull k) (length code, (table, u, s), past (length code) h) ∙ ap (λ (x : ℕ). refused number.resultFull x k) (sym z)
+          says-replied (resultFull k) (length code, (table, u, s), either-passes (length result) position (length code) h) ∙ ap (λ (x : ℕ). refused number.resultFull x k) (sym z)
 
       there : assembly w st n result position .reply ≡ refused number.resultFull i k → (i ≡ 0) × CodePasses w st n (length result) position k
       there h =

@@ -38,7 +38,7 @@ module _ (ss : List Section) (table old : List ℕ) (position : ℕ) (h : positi
       (q .0, q .1, q .2, q .3)
 
   -- so those of Ops, Data and references
-  copies-here : CopiesHere ss table (over old position (codeOf (entry table) ss)) position
+  pub copies-here : CopiesHere ss table (over old position (codeOf (entry table) ss)) position
   copies-here =
       record {
         opBytes = λ i bs l is. section-stands i (ops bs) l is;

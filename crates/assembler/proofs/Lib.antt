@@ -1,6 +1,5 @@
 pub mod Lengths
 pub mod Rows
-pub mod Places
 pub mod Pushes
 pub mod SectionBytes
 pub mod Writes
@@ -13,3 +12,6 @@ pub mod Copies
 pub mod AssemblyAnswers
 pub mod Assembles
 pub mod Leaves
+pub mod WriteLaws
+pub mod Pair
+pub mod WriteWays

@@ -3,7 +3,7 @@ use Prim.Native.Nat.{ℕ, _+_, _-_, _≤_, _<_}
 use native.Mathlib.Omega.{arith}
 use mathlib.Core.Path.{_≡_, refl, sym, ap, _∙_, subst}
 use mathlib.Core.Bool.{Bool, true, false, _||_}
-use mathlib.Core.Logic.{_↔_}
+use mathlib.Core.Logic.{_↔_, _⊎_, inl, inr}
 use mathlib.Core.List.{List}
 use lib.Dec.{ltb}
 use lib.ListN.{length}
@@ -98,6 +98,11 @@ full-law room position size = (λ f. go (ltb room position) refl f, λ h. back (
     back : (b : Bool) → ltb room position ≡ b → room < position + size → (b || ltb (room - position) size) ≡ true
     back true e h = refl
     back false e h = lt-ltb (room - position) size (omega (arith, ltb-false room position e))
+
+-- the position passes the result, or the code does: either way they come to more
+pub either-passes : (room position size : ℕ) → (room < position) ⊎ (room < position + size) → room < position + size
+either-passes room position size (inl h) = omega arith
+either-passes room position size (inr h) = h
 
 -- as the code tests it: the position is past the result's end
 pub full-position : (room position size : ℕ) → room < position → true ≡ isFull room position size

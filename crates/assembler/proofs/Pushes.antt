@@ -31,7 +31,6 @@ use Rattle.instructions.proofs.Runs.{push-anywhere}
 use Rattle.layout.specs.Layout.{total, HoldsIn}
 use Rattle.layout.specs.Passes.{entry, valueBy, sizeBy}
 use Rattle.layout.specs.Conditions.{sectionAt, Never, someMark, placed, unplacedAt, backwardBy, backwardAt}
-use Rattle.layout.proofs.Layouts.{still-placed}
 use Rattle.layout.proofs.Moves.{Still}
 use Rattle.slices.proofs.Tests.{or-false}
 use Rattle.layout.proofs.Rule.{Sizes}
@@ -41,7 +40,7 @@ use Rattle.units.specs.Reference.{byteCount, isPushZero}
 use Rattle.assembler.specs.Pushes.{widthOf, placeOf, IsPlace, ValueHere, PushesAt, ReferencesHere}
 use Rattle.assembler.proofs.Lengths.{part-lengths}
 use Rattle.assembler.proofs.Rows.{row-split}
-use Rattle.assembler.proofs.Places.{StillAt, still-at}
+use Rattle.layout.proofs.Places.{StillAt, still-at, still-value}
 
 -- ---- the bytes of a pushed reference
 
@@ -146,13 +145,6 @@ module _ (ss : List Section) (table : List ℕ) (e : ℕ) (still : Still (Sizes 
         omega (arith, ltb-false (entry table (d .end .0)) (entry table (d .start .0)) b),
       )
 
-  -- its value is at most the length in all
-  value-small : (r : MarkReference) → someMark (λ m. not (placed ss m)) r ≡ false → valueBy (entry table) r ≤ e
-  value-small (Direct m) p = still-placed (Sizes widthRule) (m .0) ss 0 (entry table) e (not-false (placed ss (m .0)) p) still
-  value-small (Delta d) p =
-      let q = or-false (not (placed ss (d .start .0))) (not (placed ss (d .end .0))) p in
-      omega (arith, still-placed (Sizes widthRule) (d .end .0) ss 0 (entry table) e (not-false (placed ss (d .end .0)) (q .1)) still)
-
   -- every reference of a code that stands in a result
   pub references-here : (old : List ℕ) (position : ℕ) → position ≤ length old → e < 2 ^ 32 → Never ss (unplacedAt ss) → Never ss (backwardAt table ss)
       → ReferencesHere ss table (over old position (codeOf (entry table) ss)) position
@@ -164,7 +156,7 @@ module _ (ss : List Section) (table : List ℕ) (e : ℕ) (still : Still (Sizes 
             let q = part-stands ss table old position i h l in
             let named : someMark (λ m. not (placed ss m)) (r .«mark_ref») ≡ false = rw is at (marks i l) in
             let narrow : tooNarrow r v ≡ false = subst (λ (s : Section). StillAt (entry table) s (0 + total (take i (map (sizeBy (entry table)) ss)))) is (still-at (entry table) ss 0 e still i l) in
-            let push : Push (sectionBytes (entry table) (sectionAt ss i)) v = subst (λ (s : Section). Push (sectionBytes (entry table) s) v) (sym is) (push-reference r v p narrow (omega (arith, value-small (r .«mark_ref») named))) in
+            let push : Push (sectionBytes (entry table) (sectionAt ss i)) v = subst (λ (s : Section). Push (sectionBytes (entry table) s) v) (sym is) (push-reference r v p narrow (omega (arith, still-value (entry table) ss e still (r .«mark_ref») named))) in
             let one : PushesAt (q .0 ++ (sectionBytes (entry table) (sectionAt ss i) ++ q .1)) (length (q .0)) (length (sectionBytes (entry table) (sectionAt ss i))) v =
             push-stands (q .0) (sectionBytes (entry table) (sectionAt ss i)) (q .1) v push in
             subst (λ (code : List ℕ). PushesAt code (position + placeOf table ss i) (widthOf table ss i) v) (sym (q .2))

@@ -16,45 +16,25 @@ use Rattle.layout.specs.Tight.{Decides, SaysLeast}
 use Rattle.layout.proofs.Tight.{least-refused, least-other}
 use Rattle.settling.specs.Settle.{settling}
 use Rattle.settling.proofs.TightSettling.{settling-within, settling-least}
+use Rattle.settling.proofs.SettlingShortest.{given-few}
 use Rattle.assembler.specs.Emission.{writtenLayout}
 use Rattle.assembler.specs.Assemble.{Outcome, isFull, assembly}
 use Rattle.assembler.specs.Demand3.{Given}
 use Rattle.assembler.specs.TightAssembly.{FewAndRoom, AssemblesWithin, AssemblesLeast}
 use Rattle.assembler.proofs.Lengths.{written-settled}
 use Rattle.assembler.proofs.Outcomes.{laid-by, outcome-refused, outcome-full, outcome-written}
-use Rattle.assembler.proofs.Laid.{fits-room}
+use Rattle.assembler.proofs.Laid.{room-answers}
+use Rattle.assembler.proofs.Demand3.{given-store}
 
 module _ (w : ℕ) (st : Store) (n : ℕ) (result : List ℕ) (position : ℕ) where
   -- it has all of demand 3's stores
   pub demand-3-few : Given w st n result position → FewAndRoom w st n result position
-  demand-3-few given =
-      record {
-        few = record {
-          undamaged = given .undamaged;
-          plain = record { inTable = given .inTable; direct = given .direct; marksPlaced = given .marksPlaced; together = given .together };
-          few = omega (arith, given .few);
-        };
-        inResult = given .inResult;
-        room = given .room;
-      }
+  demand-3-few given = record { few = given-few w st n (given-store given); inResult = given .inResult; room = given .room }
 
   -- under the premise it answers what settling does, as the code fits
   pub assembly-within : AssemblesWithin w st n result position (assembly w st n result position .reply)
-  assembly-within given = go (settling w n st .reply) refl
-    where
-      settled : Decides (decode w st) (settling w n st .reply)
-      settled = settling-within w st n (given .few)
-
-      go : (r : Reply Laid) → settling w n st .reply ≡ r → Decides (decode w st) (assembly w st n result position .reply)
-      go (refused number i k) e =
-          subst (λ (o : Outcome). Decides (decode w st) (o .reply)) (sym (outcome-refused w st n result position number i k e))
-          (subst (Decides (decode w st)) e settled)
-      go (accepted l) e =
-          let table : List ℕ = settling w n st .table in
-          let by = laid-by w st n result position l e in
-          let fits = fits-room w n st result position table (l .length) (l .passes) by (given .inResult) (given .room) in
-          let is = outcome-written w st n result position table (l .length) (l .passes) by fits in
-          subst (λ (o : Outcome). Decides (decode w st) (o .reply)) (sym is) (subst (Decides (decode w st)) e settled)
+  assembly-within given =
+      subst (Decides (decode w st)) (sym (room-answers w st n result position (given .inResult) (given .room))) (settling-within w st n (given .few))
 
   -- what is to be shown of an outcome
   abbrev Least : Outcome → Type 0

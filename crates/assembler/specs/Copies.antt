@@ -1,5 +1,5 @@
--- Document 01, module 4, 'Ops and Data are copied': where the bytes of each section stand in the result that assembly leaves, of any
--- store. Its proof is in proofs/Copies. Assumes nothing.
+-- Document 01, module 4, 'Ops and Data are copied': where the bytes of each section stand in the result that assembly or a write
+-- leaves, of any store. The proofs are in proofs/Copies and proofs/WriteLaws. Assumes nothing.
 use Prim.Native.Nat.{ℕ, _+_, _<_}
 use mathlib.Core.Path.{_≡_}
 use mathlib.Core.List.{List, _++_}

@@ -1,5 +1,5 @@
--- Demand 2, 'the code is also proved against the Yellow Paper and EIP-3855': of the answer, table and result that assembly leaves, of any
--- store. Its proof is in proofs/Instructions. Assumes nothing.
+-- Demand 2, 'the code is also proved against the Yellow Paper and EIP-3855': of the answer, table and result that assembly or a write leaves,
+-- of any store. The proofs are in proofs/Instructions and proofs/WriteLaws. Assumes nothing.
 use Prim.Native.Nat.{ℕ}
 use mathlib.Core.Path.{_≡_}
 use mathlib.Core.List.{List}

@@ -8,3 +8,6 @@ pub mod Instructions
 pub mod Copies
 pub mod Writing
 pub mod TightAssembly
+pub mod Write
+pub mod WriteAnswers
+pub mod Pair

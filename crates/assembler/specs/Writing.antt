@@ -1,5 +1,5 @@
--- Private to the writer, src/write.rt: what its functions ask and promise. No public contract cites it. They are called after the
--- settling, which refused all else. Assumes nothing.
+-- Private to the writer, src/emission.rt: what its functions ask and promise. No public contract cites it. They are called after the
+-- settling or the tests of a table, which refused all else. Assumes nothing.
 use Prim.Native.Nat.{ℕ, _+_, _%_, _≤_}
 use mathlib.Core.Path.{_≡_}
 use mathlib.Core.Bool.{true, false, cond}

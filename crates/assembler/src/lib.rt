@@ -1,12 +1,14 @@
-// Document 01, modules 3 and 4: assembly. Settling, then the code into the lent result from a position on.
-mod write;
+// Document 01, modules 3 and 4: assembly. Settling, then the code into the lent result from a position on. Document 02, request 3: the write
+// by a table from anyone.
+mod emission;
 
+use emission::write_code;
 use records::Assembler;
 use settling::Settled;
 use settling::clear;
 use settling::settle;
+use tables::check_table;
 use units::Refusal;
-use write::write_code;
 ghost use mathlib.Core.Path.{_≡_};
 ghost use lib.ListN.{length};
 ghost use Rattle.records.specs.Store.{storeOf, wordsPerSection};
@@ -14,8 +16,11 @@ ghost use Rattle.assembler.specs.Assemble.{assembledReply, isFull, assem
 ghost use Rattle.assembler.specs.Demand3.{Demand3};
 ghost use Rattle.assembler.specs.Instructions.{CodePushes};
 ghost use Rattle.assembler.specs.TightAssembly.{AssemblesWithin, AssemblesLeast};
+ghost use Rattle.assembler.specs.Write.{writeBy};
+ghost use Rattle.assembler.specs.Pair.{WritesDemand3, WritesEnough};
 
-// Written: the code's length and the passes made; or a refusal, 6 to 13, with the table all 0 and the result unchanged.
+// Written: the code's length and the passes made; or a refusal, with the result unchanged: of assembly 6 to 13, with the table all 0; of a
+// write 6 to 10, 12, 13 or 16.
 pub enum Assembled {
     Written { length: u32, passes: u32 },
     Refused(Refusal),
@@ -63,6 +68,47 @@ pub fn assemble(
         Settled::LaidOut { length, passes } => {
             if is_full(result.len(), position, length) {
                 clear(table);
+                return Assembled::Refused(Refusal::ResultFull { passes });
+            }
+            write_code(store, bytes, words, table, result, position);
+            Assembled::Written { length, passes }
+        }
+    }
+}
+
+// Writes a store's code into the result from the position on, by a table that may come from anyone and is only read. Refusals: 6 damaged,
+// 7 short table, 8 unplaced, 9 placed apart, 16 an entry that differs or 10 too narrow, 12 backward, 13 result full, with nothing changed;
+// passes are 0 in every answer.
+pub fn write(
+    store: Assembler,
+    bytes: &[u8],
+    words: &[u32],
+    table: &[u32],
+    result: &mut [u8],
+    position: usize,
+) -> Assembled
+    ensures reply { λ r.
+        ⌜ assembledReply r
+        ≡ writeBy wordsPerSection (storeOf store (now (bytes .entry)) (now (words .entry)))
+        (now (table .entry)) (now (result .entry)) position .reply ⌝ }
+    ensures result { λ _.
+        ⌜ now (result .exit)
+        ≡ writeBy wordsPerSection (storeOf store (now (bytes .entry)) (now (words .entry)))
+        (now (table .entry)) (now (result .entry)) position .result ⌝ }
+    ensures shortest { λ r.
+        ⌜ WritesDemand3 wordsPerSection (storeOf store (now (bytes .entry)) (now (words .entry)))
+        (now (table .entry)) (now (result .entry)) position (assembledReply r) (now (result .exit)) ⌝ }
+    ensures enough { λ r.
+        ⌜ WritesEnough wordsPerSection (storeOf store (now (bytes .entry)) (now (words .entry)))
+        (now (table .entry)) (assembledReply r) ⌝ }
+    ensures pushes { λ r.
+        ⌜ CodePushes wordsPerSection (storeOf store (now (bytes .entry)) (now (words .entry))) position
+        (assembledReply r) (now (table .entry)) (now (result .exit)) ⌝ }
+{
+    match check_table(store, bytes, words, table) {
+        Settled::Refused(refusal) => Assembled::Refused(refusal),
+        Settled::LaidOut { length, passes } => {
+            if is_full(result.len(), position, length) {
                 return Assembled::Refused(Refusal::ResultFull { passes });
             }
             write_code(store, bytes, words, table, result, position);

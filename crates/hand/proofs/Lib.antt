@@ -6,3 +6,5 @@ pub mod TightExamples
 pub mod Line11
 pub mod Line11Plain
 pub mod OpByteRuns
+pub mod TableExamples
+pub mod PairExamples

@@ -17,11 +17,11 @@ use Rattle.layout.specs.Conditions.{placed, shortAt, firstShort, unplacedAt, fi
 use Rattle.layout.specs.Answer.{shortTable, unplaced, placedApart, tooNarrow as narrowAnswer, Answer, laidOut, noLayout, answer}
 
 -- a reference to mark m
-abbrev direct : Bool → SetSize → ℕ → Section
+abbrev pub direct : Bool → SetSize → ℕ → Section
 direct pushed size m = reference (record { «mark_ref» = Direct (record { 0 = m }); «set_size» = size; pushed = pushed })
 
 -- the pushed delta from mark a to mark b
-abbrev delta : ℕ → ℕ → Section
+abbrev pub delta : ℕ → ℕ → Section
 delta a b = reference (record { «mark_ref» = Delta (record { start = record { 0 = a }; end = record { 0 = b } }); «set_size» = Unsized; pushed = true })
 
 -- a table's length, a list of sections, and the answer

@@ -18,6 +18,7 @@ use Rattle.units.proofs.BigEndian.{pow256-mono}
 use Rattle.records.specs.Record.{setSizeOf, readMark, readSpan, readDirect, readDelta, readSection}
 use Rattle.records.specs.Store.{Store, badCounts}
 use Rattle.records.specs.Damage.{endBefore, spansEnd, breaksRule, badCount, brokenReply, wholeSoundness}
+use Rattle.records.specs.declared.damage.Soundness.the-variants.{Sound}
 use Rattle.records.specs.Sections.{Section, mark, bytes, reference, decodeAt, decodeFrom, decode}
 use Rattle.slices.specs.First.{leastFrom}
 use Rattle.layout.specs.Layout.{Layout, total, inAll, GivesEnough}
@@ -39,7 +40,7 @@ far size n = reference (record { «mark_ref» = Direct (record { 0 = 0 }); «set
 -- ---- over lists
 
 -- the premise, where each condition is computed
-premise : (n : ℕ) (ss : List Section) → firstShort n ss ≡ length ss → first ss (deltaAt ss) ≡ length ss
+pub premise : (n : ℕ) (ss : List Section) → firstShort n ss ≡ length ss → first ss (deltaAt ss) ≡ length ss
     → firstUnplaced ss ≡ length ss → firstApart ss ≡ length ss → passBound ss ≤ 1023 → storedBytes ss + 5 * references ss < 2 ^ 32 → Premise n ss
 unfolding firstShort firstUnplaced firstApart
 premise n ss short direct placing apart few small =
@@ -96,42 +97,47 @@ line-6-padded w l h =
 
 -- ---- as a store
 
--- a pushed reference to mark 0, 254 data bytes, mark 0
-abbrev store : Store
-store =
+-- a pushed reference to mark 0, n data bytes, mark 0
+abbrev pub farStore : ℕ → Store
+farStore n =
     record {
-      bytes = replicate 254 0;
-      words = 3 ∷ 0 ∷ 8 ∷ 2 ∷ 0 ∷ 254 ∷ 0 ∷ 0 ∷ 0 ∷ [];
-      storedBytes = 254;
+      bytes = replicate n 0;
+      words = 3 ∷ 0 ∷ 8 ∷ 2 ∷ 0 ∷ n ∷ 0 ∷ 0 ∷ 0 ∷ [];
+      storedBytes = n;
       sections = 3;
     }
 
 -- a result that just has the room of 01's sizes
-abbrev result : List ℕ
-result = replicate 259 0
+abbrev pub roomFor : ℕ → List ℕ
+roomFor n = replicate (n + 5) 0
+
+-- demand 3's premise over a store, from the one over its sections
+pub given : {st : Store} {n : ℕ} {result : List ℕ} {position : ℕ} → wholeSoundness 3 st ≡ Sound → Premise n (decode 3 st)
+    → position ≤ length result → st .storedBytes + 5 * references (decode 3 st) ≤ length result - position → Given 3 st n result position
+given undamaged p inResult room =
+    record {
+      undamaged = undamaged;
+      inTable = p .inTable;
+      inResult = inResult;
+      room = room;
+      direct = p .direct;
+      marksPlaced = p .marksPlaced;
+      together = p .together;
+      few = p .few;
+    }
 
 -- the answer: 257 bytes, 3 passes
-pub line-7-reply : assembly 3 store 1 result 0 .reply ≡ written 257 3
+pub line-7-reply : assembly 3 (farStore 254) 1 (roomFor 254) 0 .reply ≡ written 257 3
 unfolding assembly settling wholeSoundness badCount badCounts brokenReply breaksRule endBefore spansEnd leastFrom decode decodeFrom decodeAt readSection readMark readSpan readDirect readDelta setSizeOf answer settle passes pass walkFrom start startFrom firstShort shortAt firstUnplaced unplacedAt firstApart apartAt firstBackward backwardAt placed someBytes leastSize size tooNarrow heldBytes
 line-7-reply = refl
 
 -- the premise of demand 3 is met
-pub line-7-given : Given 3 store 1 result 0
-unfolding wholeSoundness badCount badCounts brokenReply breaksRule endBefore spansEnd leastFrom decode decodeFrom decodeAt readSection readMark readSpan readDirect readDelta setSizeOf shortAt unplacedAt apartAt deltaAt placed someBytes sumOf
-line-7-given =
-    record {
-      undamaged = refl;
-      inTable = never-law (decode 3 store) (shortAt 1 (decode 3 store)) .0 refl;
-      inResult = omega arith;
-      room = omega arith;
-      direct = never-law (decode 3 store) (deltaAt (decode 3 store)) .0 refl;
-      marksPlaced = never-law (decode 3 store) (unplacedAt (decode 3 store)) .0 refl;
-      together = never-law (decode 3 store) (apartAt (decode 3 store)) .0 refl;
-      few = omega arith;
-    }
+pub line-7-given : Given 3 (farStore 254) 1 (roomFor 254) 0
+unfolding wholeSoundness badCount badCounts brokenReply breaksRule endBefore spansEnd leastFrom decode decodeFrom decodeAt readSection readMark readSpan readDirect readDelta setSizeOf sumOf
+line-7-given = given refl premise-7 (omega arith) (omega arith)
 
 -- so no layout that gives enough is shorter than 257 bytes
-pub line-7-least : (l : Layout) → GivesEnough (decode 3 store) l → 257 ≤ inAll l
+pub line-7-least : (l : Layout) → GivesEnough (decode 3 (farStore 254)) l → 257 ≤ inAll l
 line-7-least l h =
-    let w = demand-3-assembly 3 store 1 result 0 line-7-given .ifWritten 257 3 line-7-reply in
+    let w = demand-3-assembly 3 (farStore 254) 1 (roomFor 254) 0 line-7-given .ifWritten 257 3 line-7-reply in
     omega (arith, w .long, w .least l h .1)

@@ -4,6 +4,7 @@ use evm::landing::Landing;
 use libc::STDOUT_FILENO;
 use listing::Listed;
 use records::Assembler;
+use settling::Settled;
 use store::Built;
 use units::Refusal;
 
@@ -53,17 +54,27 @@ pub(crate) fn say_built(old: Assembler, built: Built) -> Assembler {
     }
 }
 
-// The line of an assembly call.
+fn say_laid(length: u32, passes: u32) {
+    say(b"length ");
+    say_number(length);
+    say(b" passes ");
+    say_number(passes);
+    say(b"\n");
+}
+
+// The line of an assembly call, and of a write.
 pub(crate) fn say_assembled(assembled: Assembled) {
     match assembled {
-        Assembled::Written { length, passes } => {
-            say(b"length ");
-            say_number(length);
-            say(b" passes ");
-            say_number(passes);
-            say(b"\n");
-        }
+        Assembled::Written { length, passes } => say_laid(length, passes),
         Assembled::Refused(refusal) => say_refused(refusal),
+    }
+}
+
+// The line of a settling call.
+pub(crate) fn say_settled(settled: Settled) {
+    match settled {
+        Settled::LaidOut { length, passes } => say_laid(length, passes),
+        Settled::Refused(refusal) => say_refused(refusal),
     }
 }
 

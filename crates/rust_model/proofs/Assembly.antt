@@ -33,7 +33,7 @@ use Rattle.layout.proofs.Walks.{All}
 use Rattle.layout.proofs.Premises.{all-at}
 use Rattle.layout.proofs.Apart.{placed-law}
 use Rattle.assembler.specs.Emission.{referenceBytes, sectionBytes, inARow, codeOf}
-use Rattle.assembler.proofs.Places.{settled-still}
+use Rattle.layout.proofs.Places.{settled-still}
 use Rattle.settling.specs.Settle.{Settlement, settlement, settling}
 use Rattle.assembler.specs.Assemble.{Outcome, written, assembly}
 use Rattle.settling.proofs.Decoded.{stored-small}
