@@ -91,9 +91,10 @@ fn shown(ns: f64) -> String {
     }
 }
 
-/// A row as it is kept: the name, ours and the original's nanoseconds, divided by a number.
+/// A row as it is kept: the name, ours and the original's nanoseconds, divided by a number; NaN if the original wasn't timed.
 fn row(name: &str, best: (Duration, Duration), by: f64) {
-    println!("{name}\t{}\t{}", best.0.as_nanos() as f64 / by, best.1.as_nanos() as f64 / by);
+    let theirs = if best.1 == Duration::MAX { f64::NAN } else { best.1.as_nanos() as f64 / by };
+    println!("{name}\t{}\t{theirs}", best.0.as_nanos() as f64 / by);
 }
 
 /// The rows of several links of this program as one table: the least of each.
@@ -111,10 +112,10 @@ fn table(kept: &str) {
     }
     println!("| row | ours | original | ratio |\n|---|---|---|---|");
     for (name, ours, theirs) in rows {
-        if ORIGINAL {
-            println!("| {name} | {} | {} | {:.2} |", shown(ours), shown(theirs), ours / theirs);
-        } else {
+        if theirs.is_nan() {
             println!("| {name} | {} | | |", shown(ours));
+        } else {
+            println!("| {name} | {} | {} | {:.2} |", shown(ours), shown(theirs), ours / theirs);
         }
     }
 }
@@ -152,13 +153,18 @@ fn building(name: &str, calls: Vec<Call>) {
 
 fn compare_code(pair: &mut Pair) -> u32 {
     let (length, passes) = pair.ours.assemble();
+    compare_original(pair, length);
+    passes
+}
+
+/// Ours are the original's code and table.
+fn compare_original(pair: &mut Pair, length: usize) {
     if ORIGINAL {
         pair.theirs.keep_table();
         assert!(pair.ours.result[..length] == pair.theirs.result[..], "different code");
         let placed = &pair.theirs.table[..pair.ours.table.len()];
         assert!(pair.ours.table == placed, "different tables");
     }
-    passes
 }
 
 fn time_assemble(turns: u32, pair: &mut Pair) -> (Duration, Duration) {
@@ -183,6 +189,47 @@ fn assembling(name: &str, turns: u32, calls: Vec<Call>) {
     let (length, _) = pair.ours.assemble();
     let best = time_assemble(turns, &mut pair);
     row(&format!("`assemble`, {name}: {} sections, {length} bytes, {passes} passes", pair.sections()), best, 1.0);
+}
+
+/// Assembly in two calls, beside the original's one.
+fn settling(name: &str, turns: u32, calls: Vec<Call>) {
+    let name = format!("`settle`, then `write`, {name}");
+    if !wanted(&name) {
+        return;
+    }
+    let mut pair = Pair::new(calls, 1);
+    pair.ours.table.fill(0xee);
+    let (length, passes) = pair.ours.settle();
+    assert!(pair.ours.write() == length, "another length written");
+    compare_original(&mut pair, length);
+    let best = least(
+        turns,
+        &mut pair,
+        |p| {
+            std::hint::black_box(p.ours.settle());
+            std::hint::black_box(p.ours.write());
+        },
+        |p| {
+            std::hint::black_box(p.theirs.assemble());
+        },
+    );
+    row(&format!("{name}: {} sections, {length} bytes, {passes} passes", pair.sections()), best, 1.0);
+}
+
+/// What a write costs beside its sections. Ours alone: a thousand in a turn.
+fn writing_nothing() {
+    let name = "`write`, an empty store";
+    if !wanted(name) {
+        return;
+    }
+    let mut pair = Pair::new(Vec::new(), 1);
+    let write = |p: &mut Pair| {
+        for _ in 0..1000 {
+            std::hint::black_box(p.ours.write());
+        }
+    };
+    let (best, _) = least(200, &mut pair, write, |_| {});
+    row(name, (best, Duration::MAX), 1000.0);
 }
 
 fn listing(name: &str, turns: u32, calls: Vec<Call>) {
@@ -259,6 +306,10 @@ fn main() {
     assembling("200,000 marks in blocks", 40, calls::blocks(800_000, 11));
     assembling("200,000 marks, mixed kinds", 40, calls::mixed(800_000, 13));
     assembling("line 11", 40, calls::line_11(1022, 61449));
+    settling("a contract with 700 marks", 2000, calls::contract(700, 5));
+    settling("200,000 marks in blocks", 40, calls::blocks(800_000, 11));
+    settling("200,000 marks, mixed kinds", 40, calls::mixed(800_000, 13));
+    writing_nothing();
     listing("blocks", 20, calls::blocks(800_000, 11));
     listing("mixed kinds", 20, calls::mixed(800_000, 13));
     listing("a contract with 700 marks", 200, calls::contract(700, 5));

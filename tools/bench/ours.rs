@@ -16,6 +16,8 @@ unsafe extern "C" {
     fn sadrokki_push_direct(s: u64, b: *const u8, bn: usize, w: *mut u32, wn: usize, mark: u32, form: u32) -> u64;
     fn sadrokki_push_delta(s: u64, b: *const u8, bn: usize, w: *mut u32, wn: usize, start: u32, end: u32, form: u32) -> u64;
     fn sadrokki_assemble(s: u64, b: *const u8, bn: usize, w: *const u32, wn: usize, t: *mut u32, tn: usize, r: *mut u8, rn: usize, position: usize) -> u64;
+    fn sadrokki_settle(s: u64, b: *const u8, bn: usize, w: *const u32, wn: usize, t: *mut u32, tn: usize) -> u64;
+    fn sadrokki_write(s: u64, b: *const u8, bn: usize, w: *const u32, wn: usize, t: *const u32, tn: usize, r: *mut u8, rn: usize, position: usize) -> u64;
     fn sadrokki_write_asm(s: u64, b: *const u8, bn: usize, w: *const u32, wn: usize, t: *mut u8, tn: usize) -> u64;
 }
 
@@ -96,6 +98,45 @@ impl Ours {
         };
         assert!(answer >> 56 == 0, "refused: {} at {}", answer >> 56, answer as u32);
         (answer as u32 as usize, (answer >> 32) as u32)
+    }
+
+    /// The code's length and the passes; the offsets stand in `table`.
+    pub fn settle(&mut self) -> (usize, u32) {
+        // Safety: as above.
+        let answer = unsafe {
+            sadrokki_settle(
+                self.state,
+                self.bytes.as_ptr(),
+                self.bytes.len(),
+                self.words.as_ptr(),
+                self.words.len(),
+                self.table.as_mut_ptr(),
+                self.table.len(),
+            )
+        };
+        assert!(answer >> 56 == 0, "refused: {} at {}", answer >> 56, answer as u32);
+        (answer as u32 as usize, (answer >> 32) as u32)
+    }
+
+    /// The code's length, by the offsets in `table`; the code stands in `result`, from its start on.
+    pub fn write(&mut self) -> usize {
+        // Safety: as above.
+        let answer = unsafe {
+            sadrokki_write(
+                self.state,
+                self.bytes.as_ptr(),
+                self.bytes.len(),
+                self.words.as_ptr(),
+                self.words.len(),
+                self.table.as_ptr(),
+                self.table.len(),
+                self.result.as_mut_ptr(),
+                self.result.len(),
+                0,
+            )
+        };
+        assert!(answer >> 32 == 0, "refused: {} at {}", answer >> 56, answer as u32);
+        answer as usize
     }
 
     /// The text's length; it stands in `text`, from its start on.

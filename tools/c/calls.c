@@ -64,6 +64,83 @@ static void runs(void) {
     SAME(words[5], 10);
 }
 
+static void pairs(void) {
+    uint8_t bytes[512], code[300], code_then[300];
+    uint32_t words[3 * 8], words_then[3 * 8], table[3];
+    uint8_t data[256];
+    uint64_t state = 0;
+
+    /* A pushed reference to mark 0, 253 data bytes, mark 0: settled at 255 in 2 passes, entries that aren't placed 0. */
+    for (int i = 0; i < 256; i++) data[i] = (uint8_t)(i + 1);
+    state = sadrokki_push_direct(STORE, 0, 8);
+    state = sadrokki_push_data(STORE, data, 253);
+    state = sadrokki_push_mark(STORE, 0);
+    SAME(state, ANSWER(0, 3, 253));
+    memcpy(words_then, words, sizeof words);
+    memset(table, 0xee, sizeof table);
+    SAME(sadrokki_settle(STORE, table, 3), ANSWER(0, 2, 255));
+    SAME(table[0], 255);
+    SAME(table[1] | table[2], 0);
+
+    /* Written from it: the bytes of an assembly. No pass is made, and the other entries are free. */
+    memset(code, 0xee, sizeof code);
+    memset(code_then, 0xee, sizeof code_then);
+    SAME(sadrokki_assemble(STORE, table, 3, code_then, 300, 2), ANSWER(0, 2, 255));
+    table[1] = 7;
+    SAME(sadrokki_write(STORE, table, 3, code, 300, 2), ANSWER(0, 0, 255));
+    SAME(memcmp(code, code_then, 300), 0);
+    SAME(memcmp(code, "\xee\xee\x60\xff\x01\x02", 6), 0);
+
+    /* 256 serves too, with a byte more of code; 254 and 257 don't: 16, and nothing changed. */
+    table[0] = 256;
+    SAME(sadrokki_write(STORE, table, 1, code, 256, 0), ANSWER(0, 0, 256));
+    SAME(memcmp(code, "\x61\x01\x00\x01\x02", 5), 0);
+    memcpy(code_then, code, sizeof code);
+    table[0] = 254;
+    SAME(sadrokki_write(STORE, table, 3, code, 300, 0), ANSWER(16, 0, 2));
+    table[0] = 257;
+    SAME(sadrokki_write(STORE, table, 3, code, 300, 0), ANSWER(16, 0, 2));
+    table[0] = 255;
+    SAME(sadrokki_write(STORE, table, 0, code, 300, 0), ANSWER(7, 0, 0));
+    SAME(sadrokki_write(STORE, table, 3, code, 254, 0), ANSWER(13, 0, 0));
+    SAME(sadrokki_write(STORE, table, 3, code, 300, 301), ANSWER(13, 0, 0));
+    SAME(sadrokki_write(STORE, table, 3, code, 300, (size_t)-1), ANSWER(13, 0, 0));
+    SAME(sadrokki_write(ANSWER(0, 3, 252), bytes, 512, words, 24, table, 3, code, 300, 0), ANSWER(6, 0, 1));
+    SAME(sadrokki_write(ANSWER(13, 0, 0), bytes, 512, words, 24, table, 3, code, 300, 0), ANSWER(6, 0, 0));
+    SAME(memcmp(code, code_then, 300), 0);
+    SAME(memcmp(words, words_then, sizeof words), 0);
+    SAME(memcmp(bytes, data, 253), 0);
+    SAME(table[0], 255);
+    SAME(table[1], 7);
+
+    /* A set size of 1 after the mark: too narrow by the table, found where it stands, an entry that differs before it first. */
+    state = sadrokki_push_mark(STORE, 2);
+    state = sadrokki_push_direct(STORE, 0, 9);
+    table[2] = 255;
+    SAME(sadrokki_write(STORE, table, 3, code, 300, 0), ANSWER(0, 0, 257));
+    table[0] = table[2] = 256;
+    SAME(sadrokki_write(STORE, table, 3, code, 300, 0), ANSWER(10, 0, 4));
+    table[2] = 255;
+    SAME(sadrokki_write(STORE, table, 3, code, 300, 0), ANSWER(16, 0, 3));
+
+    /* A delta with its end below its start: 12 in both calls, with settling's pass; the table is 0 after settling alone. */
+    state = 0;
+    state = sadrokki_push_mark(STORE, 0);
+    state = sadrokki_push_op_byte(STORE, 0x5b);
+    state = sadrokki_push_mark(STORE, 1);
+    state = sadrokki_push_delta(STORE, 1, 0, 8);
+    table[0] = 0;
+    table[1] = 1;
+    SAME(sadrokki_write(STORE, table, 3, code, 0, 1), ANSWER(12, 0, 3));
+    SAME(table[1] << 16 | table[2], 1 << 16 | 255);
+    SAME(sadrokki_settle(STORE, table, 3), ANSWER(12, 1, 3));
+    SAME(table[0] | table[1] | table[2], 0);
+    SAME(sadrokki_settle(STORE, table, 1), ANSWER(7, 0, 2));
+    SAME(sadrokki_settle(1, bytes, 512, words, 24, table, 3), ANSWER(6, 0, 0));
+    SAME(sadrokki_settle(0, bytes, 0, words, 0, table, 0), ANSWER(0, 1, 0));
+    SAME(sadrokki_write(0, bytes, 0, words, 0, table, 0, code, 0, 0), 0);
+}
+
 int main(void) {
     uint8_t bytes[64], code[64], text[256], name[14];
     uint32_t words[3 * 16], table[2];
@@ -112,6 +189,7 @@ int main(void) {
     SAME(memcmp(bytes, "\x92\x82\x90\x91\x90\x61\x12\x34\x64\x01\x00\x00\x00\x00\x60\x07", 16), 0);
 
     runs();
+    pairs();
 
     /* Refusals, and arguments that name nothing. */
     SAME(sadrokki_push_swap(STORE, 0), ANSWER(1, 0, 0));

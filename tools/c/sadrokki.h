@@ -5,9 +5,10 @@
  *
  * State: sections * 2^32 + stored bytes; sadrokki_new() is the empty one.
  * Answer: number * 2^56 + mid * 2^32 + low.
- *   number 0, accepted: a building call's answer is the next state; assemble: mid = passes, low = code length;
- *     write_asm: the whole answer is the text's length; op_name, size_for, least_size: low = bytes.
- *   number 1 to 14, a refusal of document 01: mid = passes, low = section.
+ *   number 0, accepted: a building call's answer is the next state; assemble, settle, write: mid = passes (0 for write),
+ *     low = code length; write_asm: the whole answer is the text's length; op_name, size_for, least_size: low = bytes.
+ *   number 1 to 14, a refusal of document 01, or 16, of document 02 (write: an entry of the table differs from the sum of
+ *     sizes before its mark): mid = passes (0 for write), low = section.
  *   number 255: an argument names nothing; nothing changed.
  *   An empty run of op bytes is accepted and answers its state, whatever number that has.
  * A building call's refusal or 255, given on as a state, has a section count above the limit. sadrokki_clear takes it, as any
@@ -52,8 +53,18 @@ uint64_t sadrokki_push_data(uint64_t state, uint8_t *bytes, size_t bytes_len, ui
 uint64_t sadrokki_push_direct(uint64_t state, const uint8_t *bytes, size_t bytes_len, uint32_t *words, size_t words_len, uint32_t mark, uint32_t form);
 uint64_t sadrokki_push_delta(uint64_t state, const uint8_t *bytes, size_t bytes_len, uint32_t *words, size_t words_len, uint32_t start, uint32_t end, uint32_t form);
 
-/* The code into result from position on, the marks' offsets into table. */
+/* The code into result from position on, the marks' offsets into table: entry m is mark m's. Refusals: 6 to 13 (7: a mark placed
+ * or named isn't below table_len), each leaving table all 0 and result as it was. */
 uint64_t sadrokki_assemble(uint64_t state, const uint8_t *bytes, size_t bytes_len, const uint32_t *words, size_t words_len, uint32_t *table, size_t table_len, uint8_t *result, size_t result_len, size_t position);
+/* The same in two calls. Settling is assembly without its code: refusals 6 to 12, each leaving table all 0. Accepted, table
+ * holds the offsets (0 for marks that aren't placed), and the answer's low half is the length that the code will have. */
+uint64_t sadrokki_settle(uint64_t state, const uint8_t *bytes, size_t bytes_len, const uint32_t *words, size_t words_len, uint32_t *table, size_t table_len);
+/* The code into result from position on, by a table that is only read: settling's, or any in which each placed mark's entry is
+ * the sum of sizes, by that table, of the sections before it. From settling's, the store being as it was, it is assemble's
+ * code; from another it need not be the shortest. Refusals: 6, 7, 8, 9; 16, such an entry differs, or 10, a reference is too
+ * narrow for its value by the table, whichever section comes first; 12; 13. Refused, nothing has changed. It takes about
+ * 130 KiB of the caller's stack. */
+uint64_t sadrokki_write(uint64_t state, const uint8_t *bytes, size_t bytes_len, const uint32_t *words, size_t words_len, const uint32_t *table, size_t table_len, uint8_t *result, size_t result_len, size_t position);
 /* The listing to the start of text. */
 uint64_t sadrokki_write_asm(uint64_t state, const uint8_t *bytes, size_t bytes_len, const uint32_t *words, size_t words_len, uint8_t *text, size_t text_len);
 

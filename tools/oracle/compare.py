@@ -1,7 +1,7 @@
 #!/usr/bin/env python3
 """Holds `replay`, the model and the original against each other: compare.py DRIVER REPLAY SEED COUNT. Every short list, then
-COUNT lists from SEED. Each list is built, read back, assembled and listed by all three. Prints the lists that differ, what was
-seen how often, and, last, how many lists differ; ends with status 1 if any does.
+COUNT lists from SEED. Each list is built, read back, assembled, settled and then written, and listed by all three. Prints the lists
+that differ, what was seen how often, and, last, how many lists differ; ends with status 1 if any does.
 
 Where demand 2's premises hold, replay must answer as the original does. They are judged from the list itself (`bad_call`,
 `marks_apart`) and from the original (no panic), never from replay's answer. Where they don't hold, replay must give the model's
@@ -14,7 +14,7 @@ import lists
 from scripts import Step, answers, filled, model
 
 SMALL = (256, 48, 8, 300, 1024)  # lengths of the lent slices: for the short lists
-LARGE = (131072, 2400, 1100, 140000, 280000)
+LARGE = (131072, 2400, 1100, 200000, 280000)
 BATCH = 400  # lists in a script
 
 UNSETTLED = "panic: internal error: entered unreachable code: assembly didn't converge"
@@ -34,11 +34,15 @@ class Differs(Exception):
 
 
 def ends(calls: lists.Calls, table: int, position: int) -> list[Step]:
-    """The steps after a list: its bytes and sections, code, table and listing, each as far as it may reach."""
+    """The steps after a list: its bytes and sections, code and table, both again by settling and writing, the code behind the other,
+    and the listing, each as far as it may reach."""
     count = sum({3: b - a, 7: 3, 8: 33, 9: 9, 10: 5, 12: b - a}.get(kind, 1) for kind, a, b in calls)
     text = sum({3: 2 * (b - a) + 30, 7: 30, 8: 90, 9: 40, 10: 30, 12: 20 * (b - a) + 20}.get(kind, 40) for kind, a, b in calls)
     top = min(table, max((a + 1 for kind, a, _ in calls if kind == 1), default=0))
-    return [(24, 0, count), (25, 0, 3 * len(calls)), (20, position, 0), (26, 0, top), (27, 0, position + count + 4 * len(calls)), (21, 0, 0), (28, 0, text)]
+    room = count + 4 * len(calls)
+    end = position + room
+    read = [(24, 0, count), (25, 0, 3 * len(calls)), (20, position, 0), (26, 0, top), (27, 0, end)]
+    return [*read, (23, 0, 0), (29, end, 0), (26, 0, top), (27, end, end + room), (21, 0, 0), (28, 0, text)]
 
 
 def refusal(line: str) -> int:
@@ -80,17 +84,19 @@ def judge(store: model.Model, calls: lists.Calls, steps: list[Step], ours: list[
     for step, o, t in zip(steps, ours, theirs, strict=True):
         m = store.step(*step) + ("" if step[0] == 28 else "\n")
         must(o == m, "replay and model", step, o[:90], m[:90])
+        if step[0] in (26, 27, 29) and not coded:
+            continue  # no code here; what the original has of it is its own
         number = refusal(o)
-        unmet = marks_apart(calls, len(store.table)) if step[0] == 20 else bad_call(*step)
+        unmet = marks_apart(calls, len(store.table)) if step[0] in (20, 23) else bad_call(*step)
         if unmet or t.startswith("panic"):
             must(number in ((unmet,) if unmet else (11, 12)), "the premises ask for", unmet, step, o[:90], t[:90])
             must(t.startswith(ALLOWED[number]), "no such difference", step, o[:90], t[:90])
-            if step[0] != 20:
+            if step[0] not in (20, 23):
                 return f"{number} in a building call"  # from here on the stores differ
             seen, coded = f"{number}", False
-        elif step[0] not in (26, 27) or coded:
+        else:
             must(o == filled(t, o), "replay and original", step, o[:90], t[:90])
-            if step[0] == 20:
+            if step[0] in (20, 23):
                 seen, coded = "10" if number else "code in 1 or 2 passes" if int(o.split()[3]) < 3 else "code in 3 or more", not number
     return seen
 

@@ -112,6 +112,14 @@ fn assemble(run: &mut Run, position: usize, hint: Option<usize>) -> String {
     }
 }
 
+/// The original has no call that settles: it assembles, and the code is dropped.
+fn settle(run: &mut Run, hint: Option<usize>) -> String {
+    let kept = std::mem::take(&mut run.result);
+    let line = assemble(run, 0, hint);
+    run.result = kept;
+    line
+}
+
 fn list(run: &mut Run) -> String {
     run.listing.text.clear();
     match caught(|| run.asm.write_asm(&mut run.listing)) {
@@ -153,6 +161,7 @@ fn step(run: &mut Run, pool: &[u8], hint: Option<usize>, kind: u8, a: u32, b: u3
         12 => building(asm, |asm| pool[from..to].iter().for_each(|&byte| asm.push_op_byte(byte))),
         20 => assemble(run, from, hint),
         21 => list(run),
+        23 => settle(run, hint),
         24 => {
             let bytes = stored(asm).0;
             hex("bytes", from, to, 2, |i| bytes.get(i).copied())
@@ -164,6 +173,8 @@ fn step(run: &mut Run, pool: &[u8], hint: Option<usize>, kind: u8, a: u32, b: u3
         26 => hex("table", from, to, 8, |i| run.table.as_ref()?.get(MarkId::new(i as u32)).copied()),
         27 => hex("result", from, to, 2, |i| run.result.get(i).map(|&byte| byte.into())),
         28 => (from..to).map(|i| *run.listing.text.as_bytes().get(i).unwrap_or(&b'?') as char).collect(),
+        // Nor has it one that writes from a table: it makes its own.
+        29 => assemble(run, from, hint),
         32.. => reference(asm, || MarkReference::Delta(Span::new(MarkId::new(a), MarkId::new(b))), kind as u32 - 32),
         _ => "?".into(),
     }

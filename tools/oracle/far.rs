@@ -1,5 +1,5 @@
 //! Offsets and deltas around 2^24 through the wrapper and through the original: code, offsets and the section of a too small
-//! set size are compared. far.sh compiles it with both.
+//! set size are compared, the wrapper's also by settling and then writing. far.sh compiles it with both.
 //!
 //! A list is: a reference to mark 0; op 5b; mark 1; the same reference; data; mark 0; the same reference again. It is made
 //! direct and as a delta from mark 1, in each of the ten forms, with 2^24 - 8 to 2^24 bytes stored in all.
@@ -11,7 +11,7 @@ type Form = (bool, usize, bool);
 type Answer = Result<(Vec<u8>, [u32; 2]), usize>;
 
 macro_rules! answer {
-    ($from:ident, $others:ident, $form:expr, $data:expr, $error:ident => $section:expr) => {{
+    ($from:ident, $others:ident, $form:expr, $data:expr, $assembled:expr, $error:ident => $section:expr) => {{
         use $from::{AsmReference, Assembler, MarkId, MarkReference, RefSize::*};
         let (delta, size, pushed) = $form;
         let [target, start] = [0, 1].map(MarkId::new);
@@ -33,22 +33,31 @@ macro_rules! answer {
         asm.push_mark(target);
         asm.push_reference(reference);
         let mut code = Vec::new();
-        match asm.assemble(&mut code, None) {
+        match $assembled(&asm, &mut code) {
             Ok(table) => Ok((code, [table[target], table[start]])),
             Err($error) => Err($section),
         }
     }};
 }
 
+/// The wrapper's assembly, which settling and writing must come to as well.
+fn assembled(asm: &sadrokki::Assembler, code: &mut Vec<u8>) -> Result<sadrokki::MarkOffsets, sadrokki::AssembleError> {
+    let answer = asm.assemble(code, None);
+    let mut written = Vec::new();
+    let pair = asm.settle(None).and_then(|settled| asm.write(&mut written, &settled.offsets).map(|()| settled.offsets));
+    assert!(pair == answer && written == *code, "settling and writing differ from assembly");
+    answer
+}
+
 fn ours(form: Form, data: &[u8]) -> Answer {
-    answer!(sadrokki, sadrokki, form, data, error => match error {
+    answer!(sadrokki, sadrokki, form, data, assembled, error => match error {
         sadrokki::AssembleError::RefHasTooSmallSetSize(section) => section,
         other => panic!("{other:?}"),
     })
 }
 
 fn originals(form: Form, data: &[u8]) -> Answer {
-    answer!(assembler, plank_core, form, data, error => {
+    answer!(assembler, plank_core, form, data, |asm: &assembler::Assembler, code| asm.assemble(code, None), error => {
         let assembler::AssembleError::RefHasTooSmallSetSize(section) = error;
         section
     })

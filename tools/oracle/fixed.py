@@ -6,7 +6,7 @@ from lists import FORMS, NUMBERS, RISING, data, delta, direct, dup, exchange, ma
 from scripts import Step, model
 
 SEED, RANDOM, WITH_RUNS = "fixed", 220, 60  # random lists tried
-LONGEST = 1200  # bytes of code printed whole
+LONGEST, AGAIN = 1200, 100  # bytes of code printed whole: an assembly's, and a write's
 
 
 def by_hand() -> Iterator[lists.Calls]:
@@ -32,6 +32,11 @@ def by_hand() -> Iterator[lists.Calls]:
         yield [mark(0), run(0), other, run(3, RISING + 0x5F), other, run(0), other, run(40), run(60), other]
 
 
+def code(start: int, end: int, most: int) -> Iterator[Step]:
+    """A code in the result, or the ends of a long one."""
+    yield from ((27, start, end),) if end - start <= most else ((27, start, start + 40), (27, end - 40, end))
+
+
 def steps(base: int, lengths: tuple[int, ...]) -> Iterator[Step]:
     """The steps, for a pool that has POOL at `base`, and for slices of these lengths."""
     store = model.Model(lengths, lists.POOL)
@@ -49,7 +54,12 @@ def steps(base: int, lengths: tuple[int, ...]) -> Iterator[Step]:
         if word == "length":
             end = int(number)
             yield 26, 0, max((a + 1 for kind, a, _ in calls if kind == 1), default=0)
-            yield from ((27, 0, end),) if end <= LONGEST else ((27, 0, 40), (27, end - 40, end))
+            yield from code(0, end, LONGEST)
+            # settled, and written so that it ends with the result
+            at = lengths[3] - end
+            yield from ((23, 0, 0), (29, at, 0), *code(at, lengths[3], AGAIN))
+        else:
+            yield 23, 0, 0
         word, number, *_ = store.step(21, 0, 0).split()
         if word == "listing":
             yield from ((21, 0, 0), (28, 0, int(number)))

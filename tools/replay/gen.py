@@ -1,7 +1,7 @@
 #!/usr/bin/env python3
 """Writes a random replay script to standard output. Usage: gen.py SEED
 Most scripts have small slices, so that every boundary is met; some are damaged by hand, and some are malformed."""
-import random, struct, sys
+import copy, random, struct, sys
 import model
 
 TOP = 2**32 - 1
@@ -78,6 +78,30 @@ def damaged(r, whole):
     return r.choice([changed, changed, fewer, more, whole[:i]])
 
 
+def other_table(store, start):
+    """The offsets of a store's marks that walks from entries all at `start` come to, so often not the least ones; none if it takes too
+    many walks, or the store is damaged or has marks that no table serves."""
+    tried = copy.copy(store)
+    tried.table = [start] * len(store.table)
+    try:
+        tried.test_whole()
+        sections = list(tried.sections())
+        tried.test_marks(sections)
+    except model.Refused:
+        return None
+    for _ in range(20):
+        at, moved = 0, False
+        for what, *of in sections:
+            if what == "mark":
+                moved = moved or tried.table[of[0]] != at
+                tried.table[of[0]] = at
+            else:  # a reference that is too narrow has its size all the same: the write finds it
+                at += len(of[0]) if what != "ref" else tried.size(*of) or of[1] + of[2]
+        if not moved:
+            return {of[0]: tried.table[of[0]] for what, *of in sections if what == "mark"}
+    return None
+
+
 class Script:
     def __init__(self, seed):
         self.r = random.Random(seed)
@@ -98,7 +122,7 @@ class Script:
             self.lengths[3] = r.choice([self.nb + 500, LIMITS[3]])
         self.pool = self.make_pool()
         self.steps = []
-        self.spans = []  # (number of a step, the kind that its section gets)
+        self.unknown = []  # (number of a step, what gives the steps after it)
 
     def make_pool(self):
         r = self.r
@@ -118,6 +142,10 @@ class Script:
 
     def add(self, kind, a=0, b=0):
         self.steps.append(struct.pack(">BII", kind, a & TOP, b & TOP))
+
+    def later(self, what):
+        """Steps that depend on the store: `what` gives them, by the model and its last line, when the script is whole."""
+        self.unknown.append((len(self.steps), what))
 
     def near(self, *values):
         """A number at or beside one of the values."""
@@ -263,14 +291,56 @@ class Script:
             self.show()
 
     def assembly(self):
-        r, n = self.r, self.lengths[3]
+        r = self.r
         if r.random() < 0.1:
             self.add(19, self.near(0, self.lengths[2], r.randint(0, self.lengths[2])), self.number())
-        self.add(20, 0 if r.random() < 0.6 else self.near(0, 1, 7, n, n - r.randint(0, min(n, 400)), TOP), self.number())
+        self.add(20, self.position(), self.number())
         self.told()
 
+    def position(self):
+        r, n = self.r, self.lengths[3]
+        return 0 if r.random() < 0.6 else self.near(0, 1, 7, n, n - r.randint(0, min(n, 400)), TOP)
+
+    def changed(self, store, _):
+        """An entry set: mostly that of a placed mark, to a number near its own."""
+        r, n = self.r, len(store.table)
+        some = [store.record(i) for i in range(min(store.s, len(store.words) // 3, 200))]
+        marks = [m for kind, m, _ in some if kind == 0 and m < n]
+        m = r.choice(marks) if marks and r.random() < 0.8 else self.near(0, n, r.randint(0, n))
+        own = store.table[m] if m < n else 0
+        return [(19, m, r.choice([own + 1, own - 1, own + 2, own ^ 256, own ^ 65536, own + 2**24, 0, 1, 255, 256, TOP, self.number()]) & TOP)]
+
+    def by_hand(self, store, _):
+        """A table in which every placed mark is at the sum of sizes before it, come to from above; the other entries stay."""
+        offsets = other_table(store, self.r.choice([1, 255, 256, 65536, 2**24, TOP])) or {}
+        return [(19, m, at) for m, at in offsets.items()] if len(offsets) <= 40 else []
+
+    def settled(self, store, line):
+        """What settling left; where it was refused mostly a table made by hand, so that the write comes to 10, 12 and 13."""
+        return self.by_hand(store, line) if self.r.random() < (0.8 if line.startswith("refused ") else 0.1) else []
+
+    def pair(self):
+        """Settling and writing, with nothing or a few entries changed between them; or a write from a table that is garbage, or made by
+        hand."""
+        r = self.r
+        if r.random() < 0.7:
+            self.add(23, self.number(), self.number())
+            self.later(self.settled)
+            if r.random() < 0.4:
+                self.add(26, 0, min(self.lengths[2], 12))
+        elif r.random() < 0.5:
+            self.later(self.by_hand)
+        for _ in range(r.choice([0, 0, 0, 1, 1, 2])):
+            self.later(self.changed)
+        for _ in range(r.choice([1, 1, 2])):
+            self.add(29, self.position(), self.number())
+        self.told()
+        if r.random() < 0.2:
+            self.add(24, 0, min(self.nb, 300))
+            self.add(25, 0, min(self.nw, 300))
+
     def told(self):
-        """What an assembly left: the first entries of the table, and of the result."""
+        """What an assembly or a write left: the first entries of the table, and of the result."""
         self.add(26, 0, min(self.lengths[2], 12))
         self.add(27, 0, min(self.lengths[3], 1400))
         for _ in range(self.r.randint(0, 4)):
@@ -326,11 +396,16 @@ class Script:
             else:
                 start, end = of if r.random() < loose else sorted(of, key=lambda m: at.get(m, 0))
                 self.add(32 + form(), start, end)
-        self.add(20, 0 if r.random() < 0.8 else r.randint(0, 9))
-        self.told()
+        ends = r.choice([[self.coded], [self.pair], [self.pair, self.coded], [self.coded, self.pair], [self.pair, self.pair]])
+        for end in ends:
+            end()
         if r.random() < 0.3:
             self.damage()
-            self.assembly()
+            r.choice([self.assembly, self.pair])()
+
+    def coded(self):
+        self.add(20, 0 if self.r.random() < 0.8 else self.r.randint(0, 9))
+        self.told()
 
     def restless(self):
         """Ten sections that never settle, sometimes with one thing changed."""
@@ -340,8 +415,30 @@ class Script:
             if r.random() < 0.02:
                 a += 1
             self.chunk(a) if kind == 3 else self.add(kind, a, b)
-        self.add(20, 0)
-        self.told()
+        r.choice([self.coded, self.pair])()
+
+    def two_tables(self):
+        """References to a mark behind them that is at 255 at most if they are short and past it if they are long, so that two tables are
+        taken; sometimes one off it. It is written from each."""
+        r = self.r
+        self.add(0)
+        self.add(1, 0)
+        forms = [r.choice([0, 8]) for _ in range(r.choice([1, 1, 2, 3, 8]))]
+        for f in forms:
+            r.choice([lambda: self.add(4, 1, f), lambda: self.add(32 + f, 0, 1)])()
+        short = sum(2 if f == 8 else 1 for f in forms)
+        data = 255 - short - r.randrange(len(forms)) + r.choice([0, 0, 0, 1, -1])
+        self.chunk(data - (half := r.randint(0, data)))
+        self.add(1, 2)
+        self.chunk(half)
+        self.add(1, 1)
+        self.add(4, r.randint(0, 2), r.choice([0, 8, 10]))
+        for table in r.sample([lambda: self.add(23), lambda: self.later(self.by_hand)], 2):
+            table()
+            if r.random() < 0.2:
+                self.later(self.changed)
+            self.add(29, self.position())
+            self.told()
 
     def landing(self):
         r, n = self.r, self.lengths[3]
@@ -353,7 +450,7 @@ class Script:
         at = len(self.pool)
         self.pool += what
         self.add(3, at, len(self.pool))
-        self.spans.append((len(self.steps), kind))
+        self.later(lambda store, line: [(17, 3 * store.s - 3, kind)] if line.startswith("stored ") and 0 < store.s else [])
 
     def good_store(self):
         """A whole store that can be listed: every call, runs of pushes, adjacent and empty sections."""
@@ -400,12 +497,12 @@ class Script:
 
     def body(self):
         r = self.r
-        mixes = [[8, 0, 1, 0, 1, 0, 1, 0, 0, 0, 0], [6, 3, 2, 1, 2, 1, 2, 1, 0, 0, 0], [3, 5, 2, 1, 2, 1, 2, 3, 0, 0, 0], [8, 1, 1, 1, 1, 1, 1, 1, 0, 0, 0], [1, 1, 1, 0, 1, 1, 1, 1, 5, 0, 0]]
-        ways = [1, 1, 1, 0, 1, 1, 1, 1, 1, 12, r.choice([0, 0, 1])] if self.coding else r.choice(mixes)
-        many = r.choice([1, 3, 10]) if sum(ways[8:]) else r.choice([3, 20, 60, 150])
+        mixes = [[8, 0, 1, 0, 1, 0, 1, 0, 1, 0, 0, 0, 0], [6, 3, 2, 1, 2, 1, 2, 1, 2, 0, 0, 0, 0], [3, 5, 2, 1, 2, 1, 2, 3, 2, 0, 0, 0, 0], [8, 1, 1, 1, 1, 1, 1, 1, 1, 0, 0, 0, 0], [1, 1, 1, 0, 1, 1, 1, 1, 1, 5, 0, 0, 0]]
+        ways = [1, 1, 1, 0, 1, 1, 1, 1, 1, 1, 12, r.choice([0, 0, 1]), 3] if self.coding else r.choice(mixes)
+        many = r.choice([1, 3, 10]) if sum(ways[9:]) else r.choice([3, 20, 60, 150])
         jobs = r.choice([0, 0.05, 0.3])
         for _ in range(many):
-            way = r.choices([self.build, self.damage, self.show, self.odd, self.listing, self.landing, self.assembly, self.runs, self.good_store, self.code, self.restless], ways)[0]
+            way = r.choices([self.build, self.damage, self.show, self.odd, self.listing, self.landing, self.assembly, self.runs, self.pair, self.good_store, self.code, self.restless, self.two_tables], ways)[0]
             if r.random() < jobs:
                 self.job()
             way()
@@ -417,28 +514,30 @@ class Script:
             elif x < 0.05:
                 self.fill_up()
         self.add(21)
+        self.add(29, 0)
         self.add(20, 0)
         for kind, n in ((24, self.nb), (25, self.nw), (26, self.lengths[2]), (27, self.lengths[3]), (28, self.lengths[4])):
             self.add(kind, 0, min(n, 2000))
         self.fit()
 
     def fit(self):
-        """Sets the kinds that `span` left, then, often, the listing buffer and the result to the length of a listing and of a code
-        with its position, or one off it."""
+        """Puts in the steps that `later` left, then, often, sets the listing buffer and the result to the length of a listing and of a
+        code with its position, or one off it."""
         r = self.r
         whole = model.Model((*self.lengths[:3], *LIMITS[3:]), self.pool)
-        marked, texts, codes, steps = dict(self.spans), [], [], []
+        texts, codes, steps = [], [], []
         for i, s in enumerate(self.steps, 1):
             kind, a, b = struct.unpack(">BII", s)
             line = whole.step(kind, a, b)
             steps.append(s)
             if line and line.startswith("listing "):
                 texts.append(int(line.split()[1]))
-            if line and line.startswith("length "):
+            if line and line.startswith("length ") and kind != 23:
                 codes.append(a + int(line.split()[1]))
-            if i in marked and line.startswith("stored ") and 0 < whole.s:
-                steps.append(struct.pack(">BII", 17, 3 * whole.s - 3, marked[i]))
-                whole.step(17, 3 * whole.s - 3, marked[i])
+            while self.unknown and self.unknown[0][0] <= i:
+                for more in self.unknown.pop(0)[1](whole, line):
+                    steps.append(struct.pack(">BII", *more))
+                    whole.step(*more)
         self.steps = steps
         if texts and r.random() < 0.7:
             self.lengths[4] = max(0, r.choice(texts) + r.choice([0, 0, -1, 1]))
@@ -550,7 +649,7 @@ def line_11():
     for n, p in ((1022, 61449), (1023, 61445)):
         refs = b"".join(step(4, m, 8) for m in range(n, 0, -1))
         marks = step(1, n, 0) + b"".join(step(3, 0, 1) + step(1, m, 0) for m in range(n - 1, 0, -1))
-        ends = step(20, 0, 0) + step(26, 0, 1100) + step(27, 0, 70000)
+        ends = b"".join(step(*s) for s in ((20, 0, 0), (26, 0, 1100), (27, 0, 70000), (23, 0, 0), (26, 0, 1100), (29, 1, 0), (27, 0, 70000)))
         yield f"line 11, {n} references", struct.pack(">6I", 65536, 9300, 1100, 70000, 0, p) + bytes(p) + refs + step(3, 0, p) + marks + ends
 
 

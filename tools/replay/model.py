@@ -1,6 +1,6 @@
 #!/usr/bin/env python3
 """An independent model of `replay`. Reads a script on standard input, prints what replay must print.
-Written from docs/REPLAY.md, document 01 (modules 1 to 6, Replies), requests 1 and 2 of document 02 as docs/DECISIONS.md reads them, and
+Written from docs/REPLAY.md, document 01 (modules 1 to 6, Replies), requests 1 to 3 of document 02 as docs/DECISIONS.md reads them, and
 op.rs for the names; it shares nothing with the Rattle code. `job_text` is the model of `job`."""
 import copy, sys
 
@@ -221,7 +221,14 @@ class Model:
         """A reference's value by the table as it is; below 0 for a backward delta."""
         return self.table[marks[-1]] - (self.table[marks[0]] if len(marks) == 2 else 0)
 
-    def settle(self, sections):
+    def size(self, marks, size, pushed):
+        """A reference's size by the table as it is, where a backward delta reads 0; none if it is too narrow."""
+        v = max(0, self.value(marks))
+        if size:
+            return size + pushed if size >= held(v) else None
+        return 1 if pushed and v == 0 else held(v) + pushed
+
+    def passes(self, sections):
         """The length in all, and the passes made."""
         at = 0
         for what, *of in sections:
@@ -238,16 +245,26 @@ class Model:
                     moved = moved or self.table[of[0]] != at
                     self.table[of[0]] = at
                 elif what == "ref":
-                    marks, size, pushed = of
-                    v = max(0, self.value(marks))
-                    if size and size < held(v):
+                    size = self.size(*of)
+                    if size is None:
                         raise Refused(10, i, number)
-                    at += size + pushed if size else 1 if pushed and v == 0 else held(v) + pushed
+                    at += size
                 else:
                     at += len(of[0])
             if not moved:
                 return at, number
         raise Refused(11, 0, PASSES)
+
+    def test_forward(self, sections, passes):
+        """Number 12."""
+        for i, (what, *of) in enumerate(sections):
+            if what == "ref" and self.value(of[0]) < 0:
+                raise Refused(12, i, passes)
+
+    def test_result(self, position, length, passes):
+        """Number 13."""
+        if position > len(self.result) or length > len(self.result) - position:
+            raise Refused(13, 0, passes)
 
     def code(self, sections):
         for what, *of in sections:
@@ -259,25 +276,66 @@ class Model:
             elif what != "mark":
                 yield of[0]
 
-    def assemble(self, position):
-        self.table[:] = [0] * len(self.table)
-        try:
-            self.test_whole()
-            sections = list(self.sections())
-            self.test_marks(sections)
-            length, passes = self.settle(sections)
-            for i, (what, *of) in enumerate(sections):
-                if what == "ref" and self.value(of[0]) < 0:
-                    raise Refused(12, i, passes)
-            if position > len(self.result) or length > len(self.result) - position:
-                raise Refused(13, 0, passes)
-        except Refused:
-            self.table[:] = [0] * len(self.table)
-            raise
+    def put(self, sections, position, length):
         code = b"".join(self.code(sections))
         assert len(code) == length
         self.result[position : position + length] = code
+
+    def settled(self):
+        """The sections, their length in all and the passes made."""
+        self.table[:] = [0] * len(self.table)
+        self.test_whole()
+        sections = list(self.sections())
+        self.test_marks(sections)
+        length, passes = self.passes(sections)
+        self.test_forward(sections, passes)
+        return sections, length, passes
+
+    def assemble(self, position):
+        try:
+            sections, length, passes = self.settled()
+            self.test_result(position, length, passes)
+        except Refused:
+            self.table[:] = [0] * len(self.table)
+            raise
+        self.put(sections, position, length)
         return f"length {length} passes {passes}"
+
+    # -- document 02, CR 3
+
+    def settle(self):
+        try:
+            _, length, passes = self.settled()
+        except Refused:
+            self.table[:] = [0] * len(self.table)
+            raise
+        return f"length {length} passes {passes}"
+
+    def walk(self, sections):
+        """Numbers 16 and 10, whichever comes first; the length in all by the table as it is, which is only read."""
+        at = 0
+        for i, (what, *of) in enumerate(sections):
+            if what == "mark":
+                if self.table[of[0]] != at:
+                    raise Refused(16, i)
+            elif what == "ref":
+                size = self.size(*of)
+                if size is None:
+                    raise Refused(10, i)
+                at += size
+            else:
+                at += len(of[0])
+        return at
+
+    def write(self, position):
+        self.test_whole()
+        sections = list(self.sections())
+        self.test_marks(sections)
+        length = self.walk(sections)
+        self.test_forward(sections, 0)
+        self.test_result(position, length, 0)
+        self.put(sections, position, length)
+        return f"length {length} passes 0"
 
     # -- document 01, module 5
 
@@ -371,6 +429,8 @@ class Model:
             return self.answer(self.write_asm)
         if kind == 22:
             return ("yes" if a < b and self.result[a] == 0x5B else "no") if b <= len(self.result) else None
+        if kind == 23:
+            return self.answer(self.settle)
         if kind == 24:
             return "bytes " + self.bytes[a:b].hex() if a <= b <= len(self.bytes) else None
         if kind == 25:
@@ -381,6 +441,8 @@ class Model:
             return "result " + self.result[a:b].hex() if a <= b <= len(self.result) else None
         if kind == 28:
             return self.text[a:b].decode("latin1") if a <= b <= len(self.text) else None
+        if kind == 29:
+            return self.answer(self.write, a)
         if kind == 30:
             return job_text(bytes(part)).decode().removesuffix("\n") if part is not None else None
         if kind >= 32 and kind - 32 in FORMS:
@@ -434,7 +496,7 @@ def job_text(job):
         return b"refused %d at %d\n" % (r.number, r.section)
 
 
-def replay(script):
+def replay(script, make=Model):
     """What replay prints for a script, a character for each byte."""
     number = lambda at: int.from_bytes(script[at : at + 4], "big")
     if not 24 <= len(script) <= MAX_SCRIPT:
@@ -443,7 +505,7 @@ def replay(script):
     count = number(20)
     if any(n > most for n, most in zip(lengths, LIMITS)) or 24 + count > len(script) or (len(script) - 24 - count) % 9:
         return "bad script\n"
-    model = Model(lengths, script[24 : 24 + count])
+    model = make(lengths, script[24 : 24 + count])
     lines = []
     for at in range(24 + count, len(script), 9):
         line = model.step(script[at], number(at + 1), number(at + 5))

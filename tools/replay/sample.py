@@ -53,6 +53,9 @@ ops = lambda what: step(12, *keep(what))
 set_byte = lambda i, v: step(16, i, v)
 set_word = lambda i, v: step(17, i, v)
 counts = lambda b, s: step(18, b, s)
+entry = lambda m, at: step(19, m, at)
+settle = lambda: step(23, TOP, TOP)
+write = lambda position=0: step(29, position, TOP)
 delta = lambda start, end, form: step(32 + form, start, end)
 
 
@@ -756,6 +759,77 @@ zeros(BYTES)
 coded(RESULT - BYTES)
 coded(RESULT - BYTES + 1)
 
+# settled, then written: garbage is 16; settling's table, and the code of an assembly; 256 serves too, with a byte more; 254 and 257
+# are 16
+new()
+direct(0, 8)
+zeros(253)
+mark(0)
+write()
+settle()
+step(26, 0, 2)
+write(RESULT - 255)
+step(27, RESULT - 256, RESULT - 250)
+for at in (256, 254, 257):
+    entry(0, at)
+    write()
+    step(27, 0, 4)
+step(20)
+step(27, 0, 4)
+
+# numbers 9, 8, 7, 6 of a write, each before those that the store has already; a write changes nothing, settling zeroes the table
+new()
+mark(0)
+op(0x5B)
+mark(0)
+write()
+direct(5, 9)
+write()
+mark(TABLE)
+write()
+set_word(12, 14)
+write()
+for kind, n in ((24, 2), (25, 18), (26, 2), (27, 4)):
+    step(kind, 0, n)
+settle()
+step(26, 0, 2)
+
+# numbers 10 and 16 are found in one walk, the earlier section winning; a backward delta reads 0 there and is 12 only after it, before 13
+new()
+delta(1, 0, 9)
+mark(0)
+zeros(256)
+mark(1)
+direct(1, 1)
+mark(2)
+for entries in ((900, 1), (3, 258), (2, 258)):  # 10 at 0, 16 at 1, 10 at 4
+    for m, at in enumerate(entries):
+        entry(m, at)
+    write()
+set_word(14, 2)
+write()  # 16 at 5
+entry(2, 260)
+write(TOP)  # 12
+settle()
+step(26, 0, 3)
+
+# number 13 of a write, with code and without; a mark twice with no bytes between, an entry that isn't placed
+new()
+op(0x5B)
+mark(1)
+data(b"")
+mark(1)
+direct(1, 8)
+settle()
+entry(0, TOP)
+for position in (RESULT - 3, RESULT - 2, RESULT, RESULT + 1, TOP):
+    write(position)
+step(27, RESULT - 4, RESULT)
+step(26, 0, 2)
+clear()
+for position in (RESULT, RESULT + 1):
+    write(position)
+
 # setting entries: first, last, one past
 new()
 for a in (0, TABLE - 1, TABLE, TOP):
@@ -768,7 +842,7 @@ step(26, TABLE, TABLE)
 # bad steps, and nothing changed by them
 new()
 op(0x5B)
-for kind in (13, 14, 15, 23, 29, 31, 37, 38, 39, 45, 46, 64, 128, 255):
+for kind in (13, 14, 15, 31, 37, 38, 39, 45, 46, 64, 128, 255):
     step(kind, 0, 0)
 for v in (256, 257, TOP):
     op(v)

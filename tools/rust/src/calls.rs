@@ -16,13 +16,13 @@ impl Answer {
         self.0 as u32 as usize
     }
 
-    fn mid(self) -> u32 {
+    pub fn mid(self) -> u32 {
         (self.0 >> 32) as u32 & 0xff_ffff
     }
 
-    /// The name in document 01's table of replies.
+    /// The name in document 01's table of replies, or what document 02 says of its number.
     pub fn name(self) -> &'static str {
-        const NAMES: [&str; 15] = [
+        const NAMES: [&str; 17] = [
             "accepted",
             "bad depth",
             "bad word",
@@ -38,6 +38,8 @@ impl Answer {
             "backward",
             "result full",
             "listing full",
+            "no job",
+            "entry differs",
         ];
         NAMES
             .get(self.number() as usize)
@@ -171,6 +173,27 @@ unsafe extern "C" {
         words: *const u32,
         words_len: usize,
         table: *mut u32,
+        table_len: usize,
+        result: *mut u8,
+        result_len: usize,
+        position: usize,
+    ) -> u64;
+    fn sadrokki_settle(
+        state: u64,
+        bytes: *const u8,
+        bytes_len: usize,
+        words: *const u32,
+        words_len: usize,
+        table: *mut u32,
+        table_len: usize,
+    ) -> u64;
+    fn sadrokki_write(
+        state: u64,
+        bytes: *const u8,
+        bytes_len: usize,
+        words: *const u32,
+        words_len: usize,
+        table: *const u32,
         table_len: usize,
         result: *mut u8,
         result_len: usize,
@@ -384,6 +407,44 @@ pub fn assemble(
             words.as_ptr(),
             words.len(),
             table.as_mut_ptr(),
+            table.len(),
+            result.as_mut_ptr(),
+            result.len(),
+            position,
+        )
+    })
+}
+
+pub fn settle(state: u64, bytes: &[u8], words: &[u32], table: &mut [u32]) -> Answer {
+    Answer(unsafe {
+        sadrokki_settle(
+            state,
+            bytes.as_ptr(),
+            bytes.len(),
+            words.as_ptr(),
+            words.len(),
+            table.as_mut_ptr(),
+            table.len(),
+        )
+    })
+}
+
+pub fn write(
+    state: u64,
+    bytes: &[u8],
+    words: &[u32],
+    table: &[u32],
+    result: &mut [u8],
+    position: usize,
+) -> Answer {
+    Answer(unsafe {
+        sadrokki_write(
+            state,
+            bytes.as_ptr(),
+            bytes.len(),
+            words.as_ptr(),
+            words.len(),
+            table.as_ptr(),
             table.len(),
             result.as_mut_ptr(),
             result.len(),

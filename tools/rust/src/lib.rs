@@ -2,8 +2,8 @@
 //! outside the proved crates: what the calls below it answer is proved, what this file makes of it is not.
 //!
 //! The wrapper owns the slices: it lends them, and grows them and calls again where an answer says that they are too short
-//! (4, 5, 7, 13, 14). Every other refusal of a building call is a panic with its number, as the original's methods return
-//! nothing; one of `assemble` is an `AssembleError`. README.md says where the original does otherwise.
+//! (4, 5, 7, 13, 14); the offsets that `write` is given aren't its own and stay as they are. Every other refusal of a building call is a panic with its number, as the original's methods return
+//! nothing; one of `assemble`, `settle` or `write` is an `AssembleError`. README.md says where the original does otherwise.
 
 mod calls;
 mod marks;
@@ -30,12 +30,20 @@ pub struct Assembler {
 pub enum AssembleError {
     /// Number 10: the section of the reference.
     RefHasTooSmallSetSize(usize),
-    /// Every other refusal: 8, 9, 11 or 12.
+    /// Every other refusal: of `assemble` and `settle` 8, 9, 11 or 12; of `write` 7, 8, 9, 12 or 16.
     Refused {
         number: u32,
         section: usize,
         passes: u32,
     },
+}
+
+/// What settling answers: where the marks will be, how long the code will be, and the passes it took.
+#[derive(Debug, Clone, PartialEq, Eq)]
+pub struct Settled {
+    pub offsets: MarkOffsets,
+    pub length: usize,
+    pub passes: u32,
 }
 
 /// Twice as long, at least 64 and at most `most`.
@@ -147,34 +155,92 @@ impl Assembler {
         result: &mut Vec<u8>,
         mark_id_count_hint: Option<usize>,
     ) -> Result<MarkOffsets, AssembleError> {
+        let mut table = self.table(mark_id_count_hint);
+        loop {
+            let answer = self.append(result, |result, position| {
+                calls::assemble(
+                    self.state,
+                    &self.bytes,
+                    &self.words,
+                    &mut table,
+                    result,
+                    position,
+                )
+            });
+            match answer.number() {
+                0 => return Ok(MarkOffsets(table)),
+                7 if table.len() < MAX_MARKS => grow(&mut table, MAX_MARKS),
+                number => return Err(answer.error(number)),
+            }
+        }
+    }
+
+    /// The first half of `assemble`: offsets, length and passes, with no code made. The table is as long as there. The
+    /// original has no such method.
+    pub fn settle(&self, mark_id_count_hint: Option<usize>) -> Result<Settled, AssembleError> {
+        let mut table = self.table(mark_id_count_hint);
+        loop {
+            let answer = calls::settle(self.state, &self.bytes, &self.words, &mut table);
+            match answer.number() {
+                0 => {
+                    return Ok(Settled {
+                        offsets: MarkOffsets(table),
+                        length: answer.low(),
+                        passes: answer.mid(),
+                    });
+                }
+                7 if table.len() < MAX_MARKS => grow(&mut table, MAX_MARKS),
+                number => return Err(answer.error(number)),
+            }
+        }
+    }
+
+    /// The second half: appends the code by these offsets, `settle`'s or any others in which each placed mark is at the sum
+    /// of sizes, by them, before it. The shortest code is promised of `settle`'s alone. `result` is as it was if there is an
+    /// error: 7 (too few offsets), 8, 9, 16 or 10, 12. Takes about 130 KiB of stack. The original has no such method.
+    pub fn write(&self, result: &mut Vec<u8>, offsets: &MarkOffsets) -> Result<(), AssembleError> {
+        let answer = self.append(result, |result, position| {
+            calls::write(
+                self.state,
+                &self.bytes,
+                &self.words,
+                &offsets.0,
+                result,
+                position,
+            )
+        });
+        match answer.number() {
+            0 => Ok(()),
+            number => Err(answer.error(number)),
+        }
+    }
+
+    fn table(&self, mark_id_count_hint: Option<usize>) -> Vec<u32> {
+        vec![0; mark_id_count_hint.unwrap_or(ASSUMED_MARK_COUNT_WITHOUT_HINT)]
+    }
+
+    /// A call that appends a code, made again with the longest room where the first is too short.
+    fn append(
+        &self,
+        result: &mut Vec<u8>,
+        mut call: impl FnMut(&mut [u8], usize) -> Answer,
+    ) -> Answer {
         let position = result.len();
-        let marks = mark_id_count_hint.unwrap_or(ASSUMED_MARK_COUNT_WITHOUT_HINT);
-        let mut table = vec![0; marks];
         // A reference has 5 bytes at most, and most sections are none.
         let most = self.stored_bytes() + 5 * self.sections();
         let mut room = self.stored_bytes() + 2 * self.sections();
         loop {
             result.resize(position + room, 0);
-            let answer = calls::assemble(
-                self.state,
-                &self.bytes,
-                &self.words,
-                &mut table,
-                result,
-                position,
-            );
+            let answer = call(result, position);
             match answer.number() {
-                0 => {
-                    result.truncate(position + answer.low());
-                    return Ok(MarkOffsets(table));
+                0 => result.truncate(position + answer.low()),
+                13 if room < most => {
+                    room = most;
+                    continue;
                 }
-                7 if table.len() < MAX_MARKS => grow(&mut table, MAX_MARKS),
-                13 if room < most => room = most,
-                number => {
-                    result.truncate(position);
-                    return Err(answer.error(number));
-                }
+                _ => result.truncate(position),
             }
+            return answer;
         }
     }
 

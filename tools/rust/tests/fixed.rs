@@ -1,4 +1,5 @@
-//! The wrapper on document 01's hand layouts, on runs of op bytes, and where its slices have to grow.
+//! The wrapper on document 01's hand layouts, each also settled and then written, on runs of op bytes, and where its slices
+//! have to grow.
 
 use sadrokki::*;
 use std::panic::AssertUnwindSafe;
@@ -36,11 +37,19 @@ fn built(calls: &[Call]) -> Assembler {
     asm
 }
 
+/// The code that assembly appends, the same with the same table if the store is settled and then written.
 fn code(calls: &[Call]) -> Result<Vec<u8>, AssembleError> {
+    let asm = built(calls);
     let mut result = vec![0xee];
-    built(calls)
-        .assemble(&mut result, None)
-        .map(|_| result.split_off(1))
+    let assembled = asm.assemble(&mut result, None);
+    let mut written = vec![0xee];
+    let settled = asm.settle(None).map(|settled| {
+        assert_eq!(asm.write(&mut written, &settled.offsets), Ok(()));
+        assert_eq!(settled.length, written.len() - 1);
+        settled.offsets
+    });
+    assert_eq!((&settled, &written), (&assembled, &result));
+    assembled.map(|_| result.split_off(1))
 }
 
 fn refused(number: u32, section: usize, passes: u32) -> Result<Vec<u8>, AssembleError> {
@@ -133,6 +142,114 @@ fn line_12_is_shown() {
     assert_eq!(asm.to_string(), text);
 }
 
+fn offsets(entries: &[u32]) -> MarkOffsets {
+    MarkOffsets(entries.to_vec())
+}
+
+#[test]
+fn settled_then_written() {
+    // Line 6: settled at 255, which is the shortest; 256 serves too, with a byte more of code, and no other does.
+    let asm = built(&[Direct(0, None, true), Data(253), Mark(0)]);
+    let settled = asm.settle(Some(2)).unwrap();
+    assert_eq!(
+        settled,
+        Settled {
+            offsets: offsets(&[255, 0]),
+            length: 255,
+            passes: 2
+        }
+    );
+    let mut result = vec![1];
+    assert_eq!(asm.write(&mut result, &settled.offsets), Ok(()));
+    assert_eq!(
+        (result.len(), &result[..4]),
+        (256, &[1, 0x60, 255, 0xdd][..])
+    );
+    assert_eq!(asm.write(&mut result, &offsets(&[256])), Ok(()));
+    assert_eq!(
+        (result.len(), &result[256..260]),
+        (512, &[0x61, 1, 0, 0xdd][..])
+    );
+    let differs = |section| AssembleError::Refused {
+        number: 16,
+        section,
+        passes: 0,
+    };
+    for other in [0, 254, 257, u32::MAX] {
+        assert_eq!(asm.write(&mut result, &offsets(&[other])), Err(differs(2)));
+    }
+    let short = AssembleError::Refused {
+        number: 7,
+        section: 0,
+        passes: 0,
+    };
+    assert_eq!(asm.write(&mut result, &offsets(&[])), Err(short));
+    assert_eq!(result.len(), 512);
+    // An entry that differs and a reference that is too narrow: the earlier section's. Marks that aren't placed are free.
+    let asm = built(&[
+        Mark(1),
+        Direct(3, Some(RefSize::S1), false),
+        Mark(3),
+        Op(0x5b),
+    ]);
+    let mut result = vec![];
+    assert_eq!(asm.write(&mut result, &offsets(&[7, 0, 7, 1, 7])), Ok(()));
+    assert_eq!(result, [1, 0x5b]);
+    let narrow = Err(AssembleError::RefHasTooSmallSetSize(1));
+    for (entries, answer) in [
+        ([7, 0, 7, 2], Err(differs(2))),
+        ([7, 0, 7, 256], narrow),
+        ([7, 1, 7, 256], Err(differs(0))),
+    ] {
+        assert_eq!(asm.write(&mut result, &offsets(&entries)), answer);
+    }
+    // Settled, then built on: what comes after the marks is written too.
+    let mut asm = built(&[Direct(0, None, true), Mark(0)]);
+    let settled = asm.settle(None).unwrap();
+    asm.push_op_byte(0x5b);
+    let mut result = vec![];
+    assert_eq!(asm.write(&mut result, &settled.offsets), Ok(()));
+    assert_eq!(result, [0x60, 2, 0x5b]);
+}
+
+#[test]
+fn written_by_long_tables() {
+    // Above 16,384 entries the write makes a larger map of the marks: mark 20,000, its entry 1, and each refusal that the map decides.
+    let table = |length: usize, entry: u32| {
+        let mut entries = vec![7; length];
+        if 20_000 < length {
+            entries[20_000] = entry;
+        }
+        MarkOffsets(entries)
+    };
+    let write = |calls: &[Call], table: &MarkOffsets| {
+        let mut result = vec![];
+        built(calls).write(&mut result, table).map(|_| result)
+    };
+    let refused = |number, section| {
+        Err(AssembleError::Refused {
+            number,
+            section,
+            passes: 0,
+        })
+    };
+    let placed = [
+        Op(0x5b),
+        Mark(20_000),
+        Mark(20_000),
+        Direct(20_000, None, true),
+    ];
+    for length in [20_001, 1_048_576, 1_048_577] {
+        assert_eq!(write(&placed, &table(length, 1)), Ok(vec![0x5b, 0x60, 1]));
+        assert_eq!(write(&placed, &table(length, 2)), refused(16, 1));
+        let unplaced = [Op(0x5b), Mark(20_000), Direct(19_999, None, true)];
+        assert_eq!(write(&unplaced, &table(length, 1)), refused(8, 2));
+        let apart = [Op(0x5b), Mark(20_000), Op(0x5b), Mark(0), Mark(20_000)];
+        assert_eq!(write(&apart, &table(length, 1)), refused(9, 4));
+    }
+    assert_eq!(write(&placed, &table(20_000, 1)), refused(7, 1));
+}
+
 #[test]
 fn slices_grow() {
     // References alone, so that the first room is too short; names longer than the first text.
@@ -155,6 +272,12 @@ fn slices_grow() {
         (2503, &[1, 2, 3, 0x63, 0][..])
     );
     assert_eq!(offsets[MarkId::new(999_999)], 2500);
+    let settled = asm.settle(None).unwrap();
+    assert_eq!((settled.length, settled.passes), (2500, 1));
+    assert_eq!(settled.offsets, offsets);
+    let mut written = vec![1, 2, 3];
+    assert_eq!(asm.write(&mut written, &offsets), Ok(()));
+    assert_eq!(written, result);
     assert_eq!(
         asm.to_string(),
         "  PUSH .mark999999:4\n".repeat(500) + ".mark999999:\n"

@@ -1,5 +1,6 @@
-//! Random call lists through the wrapper and through the original: code, offsets, error section and listing are compared.
-//! test.sh compiles it with the original's libraries. LISTS and SEED set how many lists, and from which seed.
+//! Random call lists through the wrapper and through the original: code, offsets, error section and listing are compared, the
+//! wrapper's code by assembly and by settling and writing. test.sh compiles it with the original's libraries. LISTS and SEED
+//! set how many lists, and from which seed.
 
 use std::panic::{AssertUnwindSafe, catch_unwind};
 
@@ -198,17 +199,13 @@ fn placed(calls: &[Call]) -> Vec<u32> {
         .collect()
 }
 
-/// The wrapper's outcome and listing; none if a call is refused.
-fn ours(calls: &[Call], hint: Option<usize>) -> Option<(Outcome, String)> {
-    let mut asm = sadrokki::Assembler::with_capacity(0, 0);
-    let built = catch_unwind(AssertUnwindSafe(|| {
-        calls
-            .iter()
-            .for_each(|call| make!(asm, call, sadrokki, sadrokki::U256, sadrokki));
-    }));
-    built.ok()?;
-    let mut result = vec![1, 2, 3];
-    let outcome = match asm.assemble(&mut result, hint) {
+/// What the wrapper appended to 1, 2, 3 with this answer.
+fn outcome(
+    calls: &[Call],
+    result: Vec<u8>,
+    answer: Result<sadrokki::MarkOffsets, sadrokki::AssembleError>,
+) -> Outcome {
+    match answer {
         Ok(table) => {
             let offsets = placed(calls)
                 .into_iter()
@@ -223,8 +220,29 @@ fn ours(calls: &[Call], hint: Option<usize>) -> Option<(Outcome, String)> {
                 sadrokki::AssembleError::Refused { number, .. } => Outcome::Refused(number),
             }
         }
-    };
-    Some((outcome, asm.to_string()))
+    }
+}
+
+/// The wrapper's outcomes, of assembly and of settling and writing, and listing; none if a call is refused.
+fn ours(calls: &[Call], hint: Option<usize>) -> Option<([Outcome; 2], String)> {
+    let mut asm = sadrokki::Assembler::with_capacity(0, 0);
+    let built = catch_unwind(AssertUnwindSafe(|| {
+        calls
+            .iter()
+            .for_each(|call| make!(asm, call, sadrokki, sadrokki::U256, sadrokki));
+    }));
+    built.ok()?;
+    let mut result = vec![1, 2, 3];
+    let answer = asm.assemble(&mut result, hint);
+    let assembled = outcome(calls, result, answer);
+    let mut result = vec![1, 2, 3];
+    let answer = asm.settle(hint).and_then(|settled| {
+        asm.write(&mut result, &settled.offsets)?;
+        assert_eq!(result.len(), 3 + settled.length);
+        Ok(settled.offsets)
+    });
+    let written = outcome(calls, result, answer);
+    Some(([assembled, written], asm.to_string()))
 }
 
 /// The original's.
@@ -282,11 +300,12 @@ fn same_as_the_original() {
         let kind = match (ours(&calls, hint), originals(&calls, hint)) {
             (None, None) => "a call refused, and a panic".to_string(),
             (Some(ours), Some(original)) => {
-                if !agree(&ours.0, &original.0) || ours.1 != original.1 {
+                let [assembled, written] = &ours.0;
+                if !agree(assembled, &original.0) || written != assembled || ours.1 != original.1 {
                     let _ = std::panic::take_hook();
                     panic!("list {list} differs: {calls:?}\nours {ours:?}\noriginal {original:?}");
                 }
-                match ours.0 {
+                match assembled {
                     Outcome::Code(..) => "code".to_string(),
                     Outcome::Narrow(_) => "number 10".to_string(),
                     Outcome::Refused(number) => format!("number {number}"),
