@@ -13,7 +13,7 @@ use Rattle.settling.specs.TightSettling.{SettlesWithin, SettlesLeast}
 use Rattle.assembler.specs.Assemble.{Outcome, assembly}
 use Rattle.assembler.specs.Demand3.{Demand3}
 use Rattle.assembler.specs.Instructions.{CodePushes}
-use Rattle.assembler.specs.TightAssembly.{AssemblesWithin, AssemblesLeast}
+use Rattle.assembler.specs.TightAssembly.{AssemblesWithin, AssemblesLeast, WritesWithin, WritesLeast}
 use Rattle.assembler.specs.Write.{WriteOutcome, writeBy}
 use Rattle.assembler.specs.Pair.{WritesDemand3, WritesEnough}
 use Rattle.listing.specs.Answer.{listingReply, listingBuffer}
@@ -98,7 +98,9 @@ module _ (bytes words table result : List ℕ) (position : ℕ) where
       × ((result′ ≡ writtenBy c .result)
       × (WritesDemand3 wordsPerSection (storeOf c bytes words) table result position reply result′
       × (WritesEnough wordsPerSection (storeOf c bytes words) table reply
-      × CodePushes wordsPerSection (storeOf c bytes words) position reply table result′)))
+      × (CodePushes wordsPerSection (storeOf c bytes words) position reply table result′
+      × (WritesWithin wordsPerSection (storeOf c bytes words) table result position reply
+      × WritesLeast wordsPerSection (storeOf c bytes words) table reply)))))
 
   pub wrote-packs : (counts : Assembler) (reply : Reply Laid) → reply ≡ writtenBy counts .reply → AssembledPacks reply
   wrote-packs counts reply made = subst AssembledPacks (sym made) (write-packs wordsPerSection (storeOf counts bytes words) table result position)
@@ -109,7 +111,9 @@ module _ (bytes words table result : List ℕ) (position : ℕ) where
       × ((result′ ≡ writtenBy (countsIn state) .result)
       × (WritesDemand3 wordsPerSection (storeIn state bytes words) table result position (writtenBy (countsIn state) .reply) result′
       × (WritesEnough wordsPerSection (storeIn state bytes words) table (writtenBy (countsIn state) .reply)
-      × CodePushes wordsPerSection (storeIn state bytes words) position (writtenBy (countsIn state) .reply) table result′)))
+      × (CodePushes wordsPerSection (storeIn state bytes words) position (writtenBy (countsIn state) .reply) table result′
+      × (WritesWithin wordsPerSection (storeIn state bytes words) table result position (writtenBy (countsIn state) .reply)
+      × WritesLeast wordsPerSection (storeIn state bytes words) table (writtenBy (countsIn state) .reply))))))
   wrote-all state counts is reply result′ made e =
       let all = subst (λ (c : Assembler). Writes c reply result′) is made in
       let named = subst (λ (x : Reply Laid). Writes (countsIn state) x result′) (all .0) all in

@@ -14,7 +14,7 @@ ghost use Rattle.settling.specs.TightSettling.{SettlesWithin, SettlesLeast};
 ghost use Rattle.assembler.specs.Assemble.{assembledReply, assembly};
 ghost use Rattle.assembler.specs.Demand3.{Demand3};
 ghost use Rattle.assembler.specs.Instructions.{CodePushes};
-ghost use Rattle.assembler.specs.TightAssembly.{AssemblesWithin, AssemblesLeast};
+ghost use Rattle.assembler.specs.TightAssembly.{AssemblesWithin, AssemblesLeast, WritesWithin, WritesLeast};
 ghost use Rattle.assembler.specs.Write.{writeBy};
 ghost use Rattle.assembler.specs.Pair.{WritesDemand3, WritesEnough};
 ghost use Rattle.listing.specs.Answer.{listedReply, listingReply, listingBuffer};
@@ -104,6 +104,13 @@ pub fn write(
         (writeBy wordsPerSection (storeIn state (now (bytes .entry)) (now (words .entry)))
         (now (table .entry)) (now (result .entry)) position .reply)
         (now (table .entry)) (now (result .exit)) ⌝ }
+    ensures within { λ _. ⌜ WritesWithin wordsPerSection (storeIn state (now (bytes .entry)) (now (words .entry)))
+        (now (table .entry)) (now (result .entry)) position
+        (writeBy wordsPerSection (storeIn state (now (bytes .entry)) (now (words .entry)))
+        (now (table .entry)) (now (result .entry)) position .reply) ⌝ }
+    ensures least { λ _. ⌜ WritesLeast wordsPerSection (storeIn state (now (bytes .entry)) (now (words .entry))) (now (table .entry))
+        (writeBy wordsPerSection (storeIn state (now (bytes .entry)) (now (words .entry)))
+        (now (table .entry)) (now (result .entry)) position .reply) ⌝ }
 {
     assembled_number(assembler::write(counts_in(state), bytes, words, table, result, position))
 }

@@ -14,7 +14,7 @@ use Rattle.slices.proofs.Over.{slice-over}
 use Rattle.layout.specs.Layout.{Layout, inAll}
 use Rattle.layout.specs.Passes.{entry}
 use Rattle.layout.specs.Answer.{Laid}
-use Rattle.layout.specs.Tight.{LeastLayout}
+use Rattle.layout.specs.Shortest.{LeastLayout}
 use Rattle.settling.specs.Settle.{settling}
 use Rattle.settling.specs.SettlingShortest.{GivenStore, SettlesShortest}
 use Rattle.settling.proofs.SettlingShortest.{settling-demand-3}

@@ -22,7 +22,7 @@ use Rattle.assembler.specs.Assemble.{written, Outcome, isFull, assembly}
 use Rattle.assembler.specs.Demand3.{Given, Demand3}
 use Rattle.assembler.specs.Write.{WriteOutcome, writeBy}
 use Rattle.assembler.specs.Pair.{pairReply, pairTable, PairIsAssembly, WritesDemand3}
-use Rattle.assembler.specs.TightAssembly.{AssemblesWithin, AssemblesLeast}
+use Rattle.assembler.specs.TightAssembly.{AssemblesWithin, AssemblesLeast, WritesWithin, WritesLeast}
 use Rattle.assembler.proofs.Outcomes.{LaidBy, laid-by, outcome-refused, outcome-full, outcome-written}
 use Rattle.assembler.proofs.Laid.{laid, room-written}
 use Rattle.assembler.proofs.Demand3.{demand-3-assembly}
@@ -161,3 +161,19 @@ writes-demand-3 w st table result position same =
     (λ (x : List ℕ). Demand3 w st (length table) result position
     (pairReply (settling w (length table) st .reply) (writeBy w st x result position .reply)) x (writeBy w st x result position .result))
     (sym same) (demand-3-pair w st (length table) result position)
+
+-- the same of what goes beyond it
+pub writes-within : (w : ℕ) (st : Store) (table result : List ℕ) (position : ℕ)
+    → WritesWithin w st table result position (writeBy w st table result position .reply)
+writes-within w st table result position same =
+    subst
+    (λ (x : List ℕ). AssemblesWithin w st (length table) result position
+    (pairReply (settling w (length table) st .reply) (writeBy w st x result position .reply)))
+    (sym same) (pair-within w st (length table) result position)
+
+pub writes-least : (w : ℕ) (st : Store) (table result : List ℕ) (position : ℕ)
+    → WritesLeast w st table (writeBy w st table result position .reply)
+writes-least w st table result position same =
+    subst
+    (λ (x : List ℕ). AssemblesLeast w st (pairReply (settling w (length table) st .reply) (writeBy w st x result position .reply)) x)
+    (sym same) (pair-least w st (length table) result position)

@@ -22,9 +22,10 @@ use Rattle.assembler.specs.Assemble.{written, isFull}
 use Rattle.assembler.specs.Instructions.{CodePushes}
 use Rattle.assembler.specs.Write.{WriteOutcome, notWritten, writeBy}
 use Rattle.assembler.specs.Pair.{WritesDemand3, WritesEnough}
+use Rattle.assembler.specs.TightAssembly.{WritesWithin, WritesLeast}
 use Rattle.assembler.proofs.Outcomes.{fits-law}
 use Rattle.assembler.proofs.WriteLaws.{AcceptedFacts, accepted-facts, write-refused, write-full, write-written, writes-enough, write-pushes}
-use Rattle.assembler.proofs.Pair.{writes-demand-3}
+use Rattle.assembler.proofs.Pair.{writes-demand-3, writes-within, writes-least}
 
 module _ (w : ℕ) (st : Store) (table result : List ℕ) (position : ℕ) where
   -- the contract, of an answer and a result
@@ -34,7 +35,9 @@ module _ (w : ℕ) (st : Store) (table result : List ℕ) (position : ℕ) where
       × ((result′ ≡ writeBy w st table result position .result)
       × (WritesDemand3 w st table result position reply result′
       × (WritesEnough w st table reply
-      × CodePushes w st position reply table result′)))
+      × (CodePushes w st position reply table result′
+      × (WritesWithin w st table result position reply
+      × WritesLeast w st table reply)))))
 
   -- an outcome that is the defined one keeps it
   kept : (o : WriteOutcome) → writeBy w st table result position ≡ o → Kept (o .reply) (o .result)
@@ -46,7 +49,13 @@ module _ (w : ℕ) (st : Store) (table result : List ℕ) (position : ℕ) where
         subst (λ (x : WriteOutcome). WritesDemand3 w st table result position (x .reply) (x .result)) e (writes-demand-3 w st table result position),
         (
           subst (λ (x : WriteOutcome). WritesEnough w st table (x .reply)) e (writes-enough w st table result position),
-          subst (λ (x : WriteOutcome). CodePushes w st position (x .reply) table (x .result)) e (write-pushes w st table result position),
+          (
+            subst (λ (x : WriteOutcome). CodePushes w st position (x .reply) table (x .result)) e (write-pushes w st table result position),
+            (
+              subst (λ (x : WriteOutcome). WritesWithin w st table result position (x .reply)) e (writes-within w st table result position),
+              subst (λ (x : WriteOutcome). WritesLeast w st table (x .reply)) e (writes-least w st table result position),
+            ),
+          ),
         ),
       ),
     ),

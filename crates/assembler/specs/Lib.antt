@@ -7,7 +7,7 @@ pub mod Demand3
 pub mod Instructions
 pub mod Copies
 pub mod Writing
-pub mod TightAssembly
 pub mod Write
 pub mod WriteAnswers
 pub mod Pair
+pub mod TightAssembly

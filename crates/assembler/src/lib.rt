@@ -15,7 +15,7 @@ ghost use Rattle.records.specs.Store.{storeOf, wordsPerSection};
 ghost use Rattle.assembler.specs.Assemble.{assembledReply, isFull, assembly};
 ghost use Rattle.assembler.specs.Demand3.{Demand3};
 ghost use Rattle.assembler.specs.Instructions.{CodePushes};
-ghost use Rattle.assembler.specs.TightAssembly.{AssemblesWithin, AssemblesLeast};
+ghost use Rattle.assembler.specs.TightAssembly.{AssemblesWithin, AssemblesLeast, WritesWithin, WritesLeast};
 ghost use Rattle.assembler.specs.Write.{writeBy};
 ghost use Rattle.assembler.specs.Pair.{WritesDemand3, WritesEnough};
 
@@ -104,6 +104,12 @@ pub fn write(
     ensures pushes { λ r.
         ⌜ CodePushes wordsPerSection (storeOf store (now (bytes .entry)) (now (words .entry))) position
         (assembledReply r) (now (table .entry)) (now (result .exit)) ⌝ }
+    ensures within { λ r.
+        ⌜ WritesWithin wordsPerSection (storeOf store (now (bytes .entry)) (now (words .entry)))
+        (now (table .entry)) (now (result .entry)) position (assembledReply r) ⌝ }
+    ensures least { λ r.
+        ⌜ WritesLeast wordsPerSection (storeOf store (now (bytes .entry)) (now (words .entry)))
+        (now (table .entry)) (assembledReply r) ⌝ }
 {
     match check_table(store, bytes, words, table) {
         Settled::Refused(refusal) => Assembled::Refused(refusal),

@@ -14,9 +14,9 @@ use Rattle.slices.specs.First.{leastFrom}
 use Rattle.layout.specs.Layout.{total}
 use Rattle.layout.specs.Passes.{startFrom, start, walkFrom, pass, passes, settle}
 use Rattle.layout.specs.Conditions.{placed, shortAt, firstShort, unplacedAt, firstUnplaced, someBytes, apartAt, firstApart, backwardAt, firstBackward, sumOf, deltaAt}
-use Rattle.layout.specs.Shortest.{settledLayout}
+use Rattle.layout.specs.Shortest.{settledLayout, LeastLayout}
 use Rattle.layout.specs.Answer.{Answer, laidOut, answer, answerReply, answerTable}
-use Rattle.layout.specs.Tight.{LeastLayout, SaysLeast}
+use Rattle.layout.specs.Tight.{SaysLeast}
 use Rattle.layout.proofs.Least.{never-law}
 use Rattle.layout.proofs.Tight.{answer-least}
 use Rattle.tables.specs.TableTests.{differsAt, tooNarrowAt, firstWrong, TableAnswer, accepts, refuses, tableAnswer}

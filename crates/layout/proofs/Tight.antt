@@ -11,10 +11,10 @@ use Rattle.records.specs.Sections.{Section}
 use Rattle.layout.specs.Layout.{Layout, inAll}
 use Rattle.layout.specs.Passes.{Settling, settled, narrowAt, unsettled as unsettledPasses, settle}
 use Rattle.layout.specs.Conditions.{Never, deltaAt, storedBytes, references}
-use Rattle.layout.specs.Shortest.{settledLayout, SomeLayout}
+use Rattle.layout.specs.Shortest.{settledLayout, SomeLayout, LeastLayout}
 use Rattle.layout.specs.Answer.{Answer, laidOut, noLayout, shortTable, unplaced, placedApart, tooNarrow, unsettled, backward}
 use Rattle.layout.specs.Answer.{answer, Sound, Says, Laid, answerReply, answerTable}
-use Rattle.layout.specs.Tight.{unsizedCount, passesFor, mostUnsized, PlainSections, Decides, LeastLayout, SaysLeast}
+use Rattle.layout.specs.Tight.{unsizedCount, passesFor, mostUnsized, PlainSections, Decides, SaysLeast}
 use Rattle.layout.proofs.Premises.{Ready, ready, never-backward}
 use Rattle.layout.proofs.Answers.{settle-law, answer-law}
 use Rattle.layout.proofs.Settles.{settles-least, narrow-none, settled-within, narrow-within, unsettled-many}

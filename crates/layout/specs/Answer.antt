@@ -1,11 +1,12 @@
 -- Document 01, 'Replies': the answer of settling, refusals 7 to 12 in their order. 6 is tested before, 13 after. Assumes nothing.
 use Prim.Native.Nat.{ℕ}
+use mathlib.Core.Path.{_≡_}
 use mathlib.Core.Bool.{cond}
 use mathlib.Core.List.{List}
 use lib.Dec.{ltb}
 use lib.ListN.{length, replicate}
 use Rattle.units.specs.Replies as number
-use Rattle.units.specs.Reply.{Reply, accepted, numbersReply}
+use Rattle.units.specs.Reply.{Reply, accepted, refused, numbersReply}
 use Rattle.units.specs.Replies.{RefusalNumbers}
 use Rattle.records.specs.Sections.{Section}
 use Rattle.layout.specs.Passes as settling
@@ -81,6 +82,14 @@ pub record Laid : Type 0 where
 abbrev pub answerReply : Answer → Reply Laid
 answerReply (laidOut table length passes) = accepted (record { length = length; passes = passes })
 answerReply (noLayout r) = numbersReply (layoutNumbers r)
+
+-- length and passes are answered
+abbrev pub IsLaid : Reply Laid → Type 0
+IsLaid reply = (laid : Laid) × (reply ≡ accepted laid)
+
+-- number 10
+abbrev pub IsTooNarrow : Reply Laid → Type 0
+IsTooNarrow reply = (section : ℕ) × (passes : ℕ) × (reply ≡ refused number.tooNarrow section passes)
 
 -- the table afterwards, of length n: refused, it is all 0
 abbrev pub answerTable : ℕ → Answer → List ℕ

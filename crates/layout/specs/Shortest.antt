@@ -10,13 +10,20 @@ use Rattle.layout.specs.Layout.{Layout, inAll, GivesEnough}
 use Rattle.layout.specs.Passes.{entry, sizeBy, Settling, settled, narrowAt, unsettled, settle}
 use Rattle.layout.specs.Conditions.{placed, passBound}
 
--- the layout of a settled table: its entries as offsets, each section's size by it as width
+-- the layout of a table, settled or not: its entries as offsets, each section's size by it as width
 abbrev pub settledLayout : List ℕ → List Section → Layout
 settledLayout table ss = record { offset = entry table; widths = map (sizeBy (entry table)) ss }
 
 -- 'some layout gives every reference enough bytes'
 abbrev pub SomeLayout : List Section → Type 0
 SomeLayout ss = (l : Layout) × GivesEnough ss l
+
+-- a layout that gives enough and is the least: 'Every other layout that gives enough, padded ones too, puts each mark at least as late and
+-- is at least as long in all.'
+pub record LeastLayout (ss : List Section) (l : Layout) : Type 0 where
+  pub enough : GivesEnough ss l
+  pub least : (other : Layout) → GivesEnough ss other
+      → ((m : ℕ) → placed ss m ≡ true → l .offset m ≤ other .offset m) × (inAll l ≤ inAll other)
 
 -- settled
 abbrev pub IsSettled : Settling → Type 0

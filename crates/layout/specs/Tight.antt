@@ -3,16 +3,15 @@
 -- one that line 11 meets. Said of a list of sections and a reply in the paper's numbers; the proofs are in proofs/Tight. Assumes nothing.
 use Prim.Native.Nat.{ℕ, zero, suc, _+_, _≤_, _<_}
 use mathlib.Core.Path.{_≡_}
-use mathlib.Core.Bool.{true}
 use mathlib.Core.Logic.{_↔_, _⊎_}
 use mathlib.Core.List.{List}
 use Rattle.units.specs.Replies.{tooNarrow, unsettled}
 use Rattle.units.specs.Reply.{Reply, accepted, refused}
 use Rattle.records.specs.Sections.{Section}
-use Rattle.layout.specs.Layout.{Layout, inAll, GivesEnough}
-use Rattle.layout.specs.Conditions.{Never, placed, shortAt, unplacedAt, apartAt, deltaAt, unsizedPushedCount, unsizedRawCount}
-use Rattle.layout.specs.Shortest.{SomeLayout}
-use Rattle.layout.specs.Answer.{Laid}
+use Rattle.layout.specs.Layout.{Layout, inAll}
+use Rattle.layout.specs.Conditions.{Never, shortAt, unplacedAt, apartAt, deltaAt, unsizedPushedCount, unsizedRawCount}
+use Rattle.layout.specs.Shortest.{SomeLayout, LeastLayout}
+use Rattle.layout.specs.Answer.{Laid, IsLaid, IsTooNarrow}
 
 -- A + B, the unsized references
 abbrev pub unsizedCount : List Section → ℕ
@@ -38,14 +37,6 @@ pub record PlainSections (n : ℕ) (ss : List Section) : Type 0 where
   -- 'no mark have bytes between its placings'
   pub together : Never ss (apartAt ss)
 
--- length and passes are answered
-abbrev pub IsLaid : Reply Laid → Type 0
-IsLaid reply = (laid : Laid) × (reply ≡ accepted laid)
-
--- number 10
-abbrev pub IsTooNarrow : Reply Laid → Type 0
-IsTooNarrow reply = (section : ℕ) × (passes : ℕ) × (reply ≡ refused tooNarrow section passes)
-
 -- a reply that decides whether some layout gives every reference enough bytes, within the passes that A + B allows
 pub record Decides (ss : List Section) (reply : Reply Laid) : Type 0 where
   -- a length or 10, so never 11
@@ -57,13 +48,6 @@ pub record Decides (ss : List Section) (reply : Reply Laid) : Type 0 where
   -- the pass count, in a refusal too
   pub laidWithin : (laid : Laid) → reply ≡ accepted laid → laid .passes ≤ passesFor (unsizedCount ss)
   pub narrowWithin : (section passes : ℕ) → reply ≡ refused tooNarrow section passes → passes ≤ passesFor (unsizedCount ss)
-
--- a layout that gives enough and is the least: 'Every other layout that gives enough, padded ones too, puts each mark at least as late and
--- is at least as long in all.'
-pub record LeastLayout (ss : List Section) (l : Layout) : Type 0 where
-  pub enough : GivesEnough ss l
-  pub least : (other : Layout) → GivesEnough ss other
-      → ((m : ℕ) → placed ss m ≡ true → l .offset m ≤ other .offset m) × (inAll l ≤ inAll other)
 
 -- what a reply and the layout left with it say, whatever A and B are
 pub record SaysLeast (ss : List Section) (reply : Reply Laid) (l : Layout) : Type 0 where

@@ -2,16 +2,13 @@
 -- comes in its stated condition and in no other': that it is given exactly then is `listing-law` of proofs/ListingAnswers. Assumes nothing.
 use Prim.Native.Nat.{ℕ, _≤_, _<_}
 use mathlib.Core.Path.{_≡_}
-use mathlib.Core.Bool.{true, false}
-use mathlib.Core.Logic.{_⊎_}
 use mathlib.Core.List.{List, _++_}
 use lib.ListN.{length, drop}
 use Rattle.units.specs.Replies as number
 use Rattle.units.specs.Reply.{Reply, accepted, refused}
 use Rattle.records.specs.Store.{Store}
 use Rattle.records.specs.Sections.{decode}
-use Rattle.records.specs.Damage.{badCount}
-use Rattle.undamaged.specs.View.{Undamaged, FirstBreak}
+use Rattle.undamaged.specs.View.{Undamaged, DamagedAt}
 use Rattle.listing.specs.Listing.{listing}
 
 -- what a listing can answer
@@ -33,7 +30,7 @@ answerReply full = refused number.listingFull 0 0
 abbrev pub AnswerSays : ℕ → Store → ℕ → ListingAnswer → Type 0
 AnswerSays w st room (written n) = Undamaged w st × (n ≡ length (listing (decode w st))) × (n ≤ room)
 -- 6: a bad count, and the section is 0; or the first section that breaks a rule
-AnswerSays w st room (damaged i) = ((badCount w st ≡ true) × (i ≡ 0)) ⊎ ((badCount w st ≡ false) × FirstBreak w st i)
+AnswerSays w st room (damaged i) = DamagedAt w st i
 -- 14: 'the listing passes the text buffer'
 AnswerSays w st room full = Undamaged w st × (room < length (listing (decode w st)))
 

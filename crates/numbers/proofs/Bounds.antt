@@ -19,7 +19,7 @@ use Rattle.records.specs.Sections.{Section}
 use Rattle.records.specs.Damage.{wholeSoundness, badCount, badCountBuilding, lastSoundness}
 use Rattle.records.specs.declared.damage.Soundness.{Soundness}
 use Rattle.records.specs.declared.damage.Soundness.the-variants.{Sound, Damaged}
-use Rattle.undamaged.specs.View.{FirstBreak, LastBreak}
+use Rattle.undamaged.specs.View.{DamagedAt, LastBreak}
 use Rattle.undamaged.proofs.Soundness.{damaged-at-iff, last-damaged-iff}
 use Rattle.calls.specs.Calls.{BuiltReply, Push, hasBadDepth, hasBadWord, hasLargeMark, added, joins, joined, appended, withSection, bytesPass, bytesOf, noSectionLeft, sectionPasses, roomReply, soundReply, addReply, pushReply, pushAfter, allReply}
 use Rattle.calls.proofs.Rooms.{sound-counts, left-fits}
@@ -51,7 +51,7 @@ pub whole-section : (w : ℕ) (st : Store) (i : ℕ) → wholeSoundness w st ≡
 unfolding badCount
 whole-section w st i e = go (damaged-at-iff w st i .0 e)
   where
-    go : ((badCount w st ≡ true) × (i ≡ 0)) ⊎ ((badCount w st ≡ false) × FirstBreak w st i) → i < 2 ^ 32
+    go : DamagedAt w st i → i < 2 ^ 32
     go (inl h) = omega (arith, h .1)
     go (inr h) = omega (arith, h .1 .0, within w st (or-false (badCounts w st) _ .0 (h .0) .0) .2)
 

@@ -8,7 +8,7 @@ ghost use Rattle.settling.specs.TightSettling.{SettlesWithin, SettlesLeast};
 ghost use Rattle.assembler.specs.Assemble.{assembly};
 ghost use Rattle.assembler.specs.Demand3.{Demand3};
 ghost use Rattle.assembler.specs.Instructions.{CodePushes};
-ghost use Rattle.assembler.specs.TightAssembly.{AssemblesWithin, AssemblesLeast};
+ghost use Rattle.assembler.specs.TightAssembly.{AssemblesWithin, AssemblesLeast, WritesWithin, WritesLeast};
 ghost use Rattle.assembler.specs.Write.{writeBy};
 ghost use Rattle.assembler.specs.Pair.{WritesDemand3, WritesEnough};
 ghost use Rattle.listing.specs.Answer.{listingReply, listingBuffer};
@@ -101,6 +101,13 @@ pub extern "C" fn sadrokki_write(
         (writeBy wordsPerSection (storeIn state (now (bytes .entry)) (now (words .entry)))
         (now (table .entry)) (now (result .entry)) position .reply)
         (now (table .entry)) (now (result .exit)) ⌝ }
+    ensures within { λ _. ⌜ WritesWithin wordsPerSection (storeIn state (now (bytes .entry)) (now (words .entry)))
+        (now (table .entry)) (now (result .entry)) position
+        (writeBy wordsPerSection (storeIn state (now (bytes .entry)) (now (words .entry)))
+        (now (table .entry)) (now (result .entry)) position .reply) ⌝ }
+    ensures least { λ _. ⌜ WritesLeast wordsPerSection (storeIn state (now (bytes .entry)) (now (words .entry))) (now (table .entry))
+        (writeBy wordsPerSection (storeIn state (now (bytes .entry)) (now (words .entry)))
+        (now (table .entry)) (now (result .entry)) position .reply) ⌝ }
 {
     answers::write(state, bytes, words, table, result, position)
 }

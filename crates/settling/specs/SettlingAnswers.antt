@@ -1,16 +1,12 @@
 -- Document 01, 'Replies': the condition of each answer of settling, 6 to 12. 'Each number comes in its stated condition and in no other':
 -- that it is given exactly then is `settling-law` of proofs/SettlingLaw. Assumes nothing.
 use Prim.Native.Nat.{ℕ}
-use mathlib.Core.Path.{_≡_}
-use mathlib.Core.Bool.{true, false}
-use mathlib.Core.Logic.{_⊎_}
 use mathlib.Core.List.{List}
 use Rattle.units.specs.Replies as number
 use Rattle.units.specs.Reply.{Reply, accepted, refused, numbersReply}
 use Rattle.records.specs.Store.{Store}
 use Rattle.records.specs.Sections.{decode}
-use Rattle.records.specs.Damage.{badCount}
-use Rattle.undamaged.specs.View.{Undamaged, FirstBreak}
+use Rattle.undamaged.specs.View.{Undamaged, DamagedAt}
 use Rattle.layout.specs.Answer as layout
 
 -- what settling can answer
@@ -33,6 +29,6 @@ abbrev pub SettlingSays : ℕ → Store → ℕ → SettlingAnswer → Type 0
 -- laid out in so many bytes by so many passes: 6 to 12 don't hold
 SettlingSays w st n (laidOut size k) = (table : List ℕ) × Undamaged w st × layout.Says n (decode w st) (layout.laidOut table size k)
 -- 6: a bad count, and the section is 0; or the first section that breaks a rule
-SettlingSays w st n (damaged i) = ((badCount w st ≡ true) × (i ≡ 0)) ⊎ ((badCount w st ≡ false) × FirstBreak w st i)
+SettlingSays w st n (damaged i) = DamagedAt w st i
 -- 7 to 12 over the sections of an undamaged store: Says, of layout/specs/Answer
 SettlingSays w st n (noLayout r) = Undamaged w st × layout.Says n (decode w st) (layout.noLayout r)

@@ -14,9 +14,8 @@ use Rattle.records.specs.declared.damage.Soundness.the-variants.{Sound}
 use Rattle.layout.specs.Layout.{inAll}
 use Rattle.layout.specs.Passes.{settled, narrowAt, settle}
 use Rattle.layout.specs.Conditions.{Never, shortAt, unplacedAt, apartAt, deltaAt, passBound}
-use Rattle.layout.specs.Shortest.{settledLayout, SomeLayout}
-use Rattle.layout.specs.Answer.{Laid}
-use Rattle.layout.specs.Tight.{IsLaid, IsTooNarrow, LeastLayout}
+use Rattle.layout.specs.Shortest.{settledLayout, SomeLayout, LeastLayout}
+use Rattle.layout.specs.Answer.{Laid, IsLaid, IsTooNarrow}
 
 -- the premise, its parts about store and table
 pub record GivenStore (w : ℕ) (st : Store) (n : ℕ) : Type 0 where

@@ -3,8 +3,7 @@
 -- proofs/TableLaws. Assumes nothing.
 use Prim.Native.Nat.{ℕ, _<_}
 use mathlib.Core.Path.{_≡_}
-use mathlib.Core.Bool.{true, false}
-use mathlib.Core.Logic.{_⊎_}
+use mathlib.Core.Bool.{true}
 use mathlib.Core.List.{List}
 use lib.ListN.{length}
 use Rattle.units.specs.Replies as number
@@ -13,8 +12,7 @@ use Rattle.units.specs.Reference as width
 use Rattle.units.specs.declared.AsmReference.{AsmReference}
 use Rattle.records.specs.Store.{Store}
 use Rattle.records.specs.Sections.{Section, reference, decode}
-use Rattle.records.specs.Damage.{badCount}
-use Rattle.undamaged.specs.View.{Undamaged, FirstBreak}
+use Rattle.undamaged.specs.View.{Undamaged, DamagedAt}
 use Rattle.layout.specs.Layout.{inAll, GivesEnough}
 use Rattle.layout.specs.Passes.{entry, valueBy, sizeBy}
 use Rattle.layout.specs.Conditions.{sectionAt, IsFirst, Never, shortAt, unplacedAt, apartAt, backwardAt, sumOf}
@@ -58,7 +56,7 @@ TableSays table ss (refuses (differs i)) = Sound (length table) ss × Differs ta
 TableSays table ss (refuses (tooNarrow i)) = Sound (length table) ss × Narrow table ss i × RightBefore table ss i
 -- 12, by this table
 TableSays table ss (refuses (backward i)) =
-    Sound (length table) ss × Agrees table ss × ((i : ℕ) → Narrow table ss i → ⊥) × IsFirst ss (backwardAt table ss) i
+    Sound (length table) ss × Agrees table ss × ((j : ℕ) → Narrow table ss j → ⊥) × IsFirst ss (backwardAt table ss) i
 
 -- ---- of a store
 
@@ -77,7 +75,7 @@ testReply (bySections a) = tableReply a
 -- the condition of each
 abbrev pub TestSays : ℕ → Store → List ℕ → TestAnswer → Type 0
 -- 6: a bad count, and the section is 0; or the first section that breaks a rule
-TestSays w st table (damaged i) = ((badCount w st ≡ true) × (i ≡ 0)) ⊎ ((badCount w st ≡ false) × FirstBreak w st i)
+TestSays w st table (damaged i) = DamagedAt w st i
 -- the others over the sections of an undamaged store
 TestSays w st table (bySections a) = Undamaged w st × TableSays table (decode w st) a
 

@@ -1,6 +1,6 @@
 // One section as the walks read it, by its three words and the lent table. In an undamaged store a kind below Direct that isn't a mark is
-// Ops or Data, and one above it a delta. These are settling's, private there and here: made public they would test each index, and with a
-// second caller they may no longer be inlined into the passes (docs/DECISIONS.md, 49).
+// Ops or Data, and one above it a delta. These are settling's, private there and here: made public they would test each index at every turn
+// (docs/DECISIONS.md, 49).
 use records::Assembler;
 use records::StoredSection;
 use records::form_of;

@@ -15,7 +15,7 @@ use Rattle.records.specs.Store.{Store, maxBytes, maxSections, sectionWords, bad
 use Rattle.records.specs.Damage.{unreadable, isSpan, endBefore, spansEnd, breaksRule, firstBroken, badCount, brokenReply, wholeSoundness, lastBroken, badCountBuilding, lastSoundness}
 use Rattle.records.specs.declared.damage.Soundness.{Soundness}
 use Rattle.records.specs.declared.damage.Soundness.the-variants.{Sound, Damaged}
-use Rattle.undamaged.specs.View.{Undamaged, Facts, Within, Keeps, FirstBreak, LastBreak}
+use Rattle.undamaged.specs.View.{Undamaged, Facts, Within, Keeps, FirstBreak, DamagedAt, LastBreak}
 use Rattle.slices.specs.First.{IsLeast}
 use Rattle.undamaged.specs.View.{unsound}
 use Rattle.slices.proofs.Tests.{and-false, false-and, cond-true, cond-false, and-false-left, or-iff}
@@ -181,7 +181,7 @@ first-break-iff w st i =
 
 -- `Damaged i`: a bad count, and i is 0; or section i is the first that breaks a rule
 pub damaged-at-iff : (w : ℕ) (st : Store) (i : ℕ)
-    → (wholeSoundness w st ≡ Damaged i) ↔ (((badCount w st ≡ true) × (i ≡ 0)) ⊎ ((badCount w st ≡ false) × FirstBreak w st i))
+    → (wholeSoundness w st ≡ Damaged i) ↔ DamagedAt w st i
 unfolding wholeSoundness brokenReply
 damaged-at-iff w st i = Iff·trans (damaged-iff _ _ _ _) (or-iff (Iff·and Iff·rfl (first-break-iff w st i)))
 

@@ -3,10 +3,11 @@
 use mathlib.Core.Path.{_≡_}
 use Prim.Native.Nat.{ℕ, suc, _*_, _≤_, _<_, _-_}
 use mathlib.Core.Bool.{Bool, true, false}
+use mathlib.Core.Logic.{_⊎_}
 use lib.ListN.{length}
 use Rattle.records.specs.Record.{readSection}
 use Rattle.records.specs.Store.{Store, maxBytes, maxSections, sectionWords}
-use Rattle.records.specs.Damage.{unreadable, isSpan, endBefore, spansEnd, breaksRule, wholeSoundness, lastBroken}
+use Rattle.records.specs.Damage.{unreadable, isSpan, endBefore, spansEnd, badCount, breaksRule, wholeSoundness, lastBroken}
 use Rattle.records.specs.declared.damage.Soundness.{Soundness}
 use Rattle.records.specs.declared.damage.Soundness.the-variants.{Sound, Damaged}
 
@@ -43,6 +44,10 @@ Keeps w st i =
 -- section i is the first that breaks a rule of the whole test
 abbrev pub FirstBreak : ℕ → Store → ℕ → Type 0
 FirstBreak w st i = (i < st .sections) × (breaksRule w st i ≡ true) × ((j : ℕ) → j < i → breaksRule w st j ≡ false)
+
+-- 6 of a whole store: a bad count, and the section is 0; or the first section that breaks a rule
+abbrev pub DamagedAt : ℕ → Store → ℕ → Type 0
+DamagedAt w st i = ((badCount w st ≡ true) × (i ≡ 0)) ⊎ ((badCount w st ≡ false) × FirstBreak w st i)
 
 -- there is a last section, a building call's test finds it broken, and it is i
 abbrev pub LastBreak : ℕ → Store → ℕ → Type 0

@@ -2,8 +2,9 @@
 //! outside the proved crates: what the calls below it answer is proved, what this file makes of it is not.
 //!
 //! The wrapper owns the slices: it lends them, and grows them and calls again where an answer says that they are too short
-//! (4, 5, 7, 13, 14); the offsets that `write` is given aren't its own and stay as they are. Every other refusal of a building call is a panic with its number, as the original's methods return
-//! nothing; one of `assemble`, `settle` or `write` is an `AssembleError`. README.md says where the original does otherwise.
+//! (4, 5, 7, 13, 14); the offsets that `write` is given aren't its own and stay as they are. Every other refusal of a
+//! building call is a panic with its number, as the original's methods return nothing; one of `assemble`, `settle` or
+//! `write` is an `AssembleError`. README.md says where the original does otherwise.
 
 mod calls;
 mod marks;
