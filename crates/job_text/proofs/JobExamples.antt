@@ -18,8 +18,8 @@ use Rattle.layout.specs.Answer.{answer}
 use Rattle.settling.specs.Settle.{settling}
 use Rattle.assembler.specs.Emission.{referenceBytes, inARow}
 use Rattle.assembler.specs.Assemble.{assembly}
-use Rattle.listing.specs.Decimal.{lastDigits, decimal}
-use Rattle.listing.specs.Listing.{hexDigit, hex}
+use Rattle.lines.specs.Decimal.{lastDigits, decimal}
+use Rattle.lines.specs.Lines.{hexDigit, hex}
 use Rattle.jobs.specs.JobFormat.{stepsFrom, isListed, allListed, isJob}
 use Rattle.jobs.specs.JobCalls.{stepCall, builtBy}
 use Rattle.jobs.specs.JobText.{codeText, refusedText, longestText}

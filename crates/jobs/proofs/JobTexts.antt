@@ -10,10 +10,10 @@ use borrow.Author.Tests.{lt-ltb, le-ltb, ltb-true, ltb-false}
 use Rattle.opcodes.specs.Text.{asBytes}
 use Rattle.slices.specs.Over.{over, overIfRoom}
 use Rattle.slices.proofs.Over.{has-room, over-next, length-over}
-use Rattle.listing.specs.Decimal.{decimal}
-use Rattle.listing.specs.Listing.{hex}
-use Rattle.listing.proofs.Turns.{hex-length}
-use Rattle.listing.proofs.Digits.{decimal-most}
+use Rattle.lines.specs.Decimal.{decimal}
+use Rattle.lines.specs.Lines.{hex}
+use Rattle.lines.proofs.Turns.{hex-length}
+use Rattle.lines.proofs.Digits.{decimal-most}
 use Rattle.jobs.specs.JobText.{codeText, refusedText}
 
 -- a text at the start

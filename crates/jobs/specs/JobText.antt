@@ -5,8 +5,8 @@ use lib.ListN.{take}
 use Rattle.units.specs.Reply.{Reply, accepted, refused}
 use Rattle.layout.specs.Answer.{Laid}
 use Rattle.opcodes.specs.Text.{asBytes}
-use Rattle.listing.specs.Decimal.{decimal}
-use Rattle.listing.specs.Listing.{hex}
+use Rattle.lines.specs.Decimal.{decimal}
+use Rattle.lines.specs.Lines.{hex}
 
 -- '`code `, lower-case hex and a line feed'
 unfoldable pub codeText : List ℕ → List ℕ

@@ -1,6 +1,6 @@
 // The text of an answer, written to the start of a buffer that has room for it. Each function answers the text's length.
-use listing::text::write_decimal;
-use listing::text::write_hex;
+use lines::write_decimal;
+use lines::write_hex;
 use slices::write_bytes;
 ghost use mathlib.Core.Path.{_≡_};
 ghost use Prim.Native.Nat.{_+_, _*_, _≤_, _<_};

@@ -15,11 +15,11 @@ use Rattle.undamaged.specs.View.{Undamaged, Facts}
 use Rattle.undamaged.specs.Section.{ReadIn}
 use Rattle.undamaged.proofs.Soundness.{undamaged-iff}
 use Rattle.undamaged.proofs.Sections.{section-in, section-held}
-use Rattle.listing.specs.Put.{Room, wordsText, Listable}
+use Rattle.listing.specs.Room.{Room, wordsText, Listable}
 use Rattle.listing.specs.Sink.{added}
 use Rattle.listing.specs.declared.sink.TextSink.{TextSink}
 use Rattle.listing.specs.Listing.{sectionText, listing}
-use Rattle.listing.proofs.Puts.{added-none, added-append}
+use Rattle.listing.proofs.Added.{added-none, added-append}
 use Rattle.listing.proofs.Lengths.{section-length}
 
 -- the sections from i on

@@ -11,8 +11,9 @@ use Rattle.units.specs.declared.RefSize.the-variants.{S2}
 use Rattle.units.specs.declared.SetSize.the-variants.{Sized}
 use Rattle.units.specs.declared.MarkReference.the-variants.{Direct, Delta}
 use Rattle.records.specs.Sections.{mark, ops, bytes, reference}
-use Rattle.listing.specs.Decimal.{lastDigits, decimal}
-use Rattle.listing.specs.Listing.{hexDigit, hex, markName, markLine, dataLine, cutText, immediateText, instructionLine, instructionLines, opsLines, deltaText, referenceLine, listing}
+use Rattle.lines.specs.Decimal.{lastDigits, decimal}
+use Rattle.lines.specs.Lines.{hexDigit, hex, markName, markLine, dataLine, cutText, immediateText, instructionLine, instructionLines, opsLines, deltaText, referenceLine}
+use Rattle.listing.specs.Listing.{listing}
 
 -- line 12: mark 0, op 5b, pushed ref 1, op 56, mark 1, op 5b, data aa bb, raw delta 0 to 1 size 2
 pub line-12 :

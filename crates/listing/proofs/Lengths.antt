@@ -25,9 +25,10 @@ use Rattle.records.specs.declared.record.AsmSection.the-variants.{Mark, Ops, Da
 use Rattle.records.specs.declared.record.SectionRead.{SectionRead}
 use Rattle.records.specs.declared.record.SectionRead.the-variants.{Read, Damaged}
 use Rattle.undamaged.specs.Section.{spanBytes, SmallMarks, ReadIn}
-use Rattle.listing.specs.Listing.{hex, markName, markLine, dataLine, cutText, immediateText, instructionLine, instructionLines, opsLines, pushText, deltaText, marksText, sizeText, referenceLine, sectionText}
-use Rattle.listing.proofs.Digits.{decimal-length}
-use Rattle.listing.proofs.Turns.{hex-length}
+use Rattle.lines.specs.Lines.{hex, markName, markLine, dataLine, cutText, immediateText, instructionLine, instructionLines, opsLines, pushText, deltaText, marksText, sizeText, referenceLine}
+use Rattle.listing.specs.Listing.{sectionText}
+use Rattle.lines.proofs.Digits.{decimal-length}
+use Rattle.lines.proofs.Turns.{hex-length}
 
 -- ---- marks and data
 

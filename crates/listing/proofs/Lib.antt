@@ -1,8 +1,5 @@
-pub mod Digits
-pub mod Puts
-pub mod Turns
-pub mod Rooms
 pub mod Lengths
+pub mod Added
 pub mod Every
 pub mod SectionLines
 pub mod ListingAnswers

@@ -22,7 +22,7 @@ use Rattle.records.specs.declared.damage.Soundness.the-variants.{Sound, Damaged
 use Rattle.undamaged.specs.View.{Undamaged}
 use Rattle.undamaged.proofs.Soundness.{damaged-at-iff}
 use Rattle.listing.specs.Listing.{listing}
-use Rattle.listing.specs.Put.{Put, storeText}
+use Rattle.listing.specs.Room.{storeText}
 use Rattle.listing.specs.Answer.{listingReply, listingBuffer}
 use Rattle.listing.specs.ListingAnswers.{ListingAnswer, written, damaged, full, answerReply, AnswerSays, bufferAfter}
 
@@ -112,9 +112,9 @@ module _ (w : ℕ) (st : Store) (buffer : List ℕ) where
         (given .0, same ∙ given .1)
 
     -- it fits
-    pub answers-text : {r : ℕ} {after : List ℕ} → n ≤ length then → Put then 0 (storeText w st) r after → Answers (accepted n) after
+    pub answers-text : {after : List ℕ} → n ≤ length then → after ≡ sets then 0 (storeText w st) → Answers (accepted n) after
     answers-text h p =
         let text : List ℕ = storeText w st in
         let given = answers (written n) (u, counted, omega (arith, ap length same)) in
-        let put = p .text ∙ ap (λ (l : List ℕ). sets l 0 text) same ∙ sets-eq text buffer 0 (omega (arith, ap length same)) ∙ ap (λ (k : ℕ). text ++ drop k buffer) (zero-add _ ∙ sym counted) in
+        let put = p ∙ ap (λ (l : List ℕ). sets l 0 text) same ∙ sets-eq text buffer 0 (omega (arith, ap length same)) ∙ ap (λ (k : ℕ). text ++ drop k buffer) (zero-add _ ∙ sym counted) in
         (given .0, put ∙ given .1)

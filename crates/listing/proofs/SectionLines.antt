@@ -1,6 +1,6 @@
 -- The text of a section of an undamaged store, by its kind word: one law for each way that the code goes. Assumes nothing.
 use Prim.Native.Nat.{ℕ}
-use mathlib.Core.Path.{_≡_, ap, subst}
+use mathlib.Core.Path.{_≡_, ap}
 use mathlib.Core.Bool.{false}
 use mathlib.Core.List.{List}
 use lib.ListN.{length}
@@ -12,11 +12,12 @@ use Rattle.records.specs.declared.record.AsmSection.the-variants.{MarkRef}
 use Rattle.records.specs.declared.record.SectionRead.{SectionRead}
 use Rattle.records.specs.declared.record.SectionRead.the-variants.{Read}
 use Rattle.records.specs.declared.record.StoredSection.{StoredSection}
-use Rattle.undamaged.specs.Section.{spanBytes, SpanIn, ReadIn}
+use Rattle.undamaged.specs.Section.{spanBytes, ReadIn}
 use Rattle.undamaged.proofs.Reading.{reads, mark-read, ops-read, data-read}
 use Rattle.undamaged.proofs.Sections.{can-read}
-use Rattle.listing.specs.Listing.{markLine, opsLines, dataLine, referenceLine, sectionText}
-use Rattle.listing.specs.Put.{wordsText}
+use Rattle.lines.specs.Lines.{markLine, opsLines, dataLine, referenceLine}
+use Rattle.listing.specs.Listing.{sectionText}
+use Rattle.listing.specs.Room.{wordsText}
 
 module _ (bs : List ℕ) (x : StoredSection) (here : ReadIn (length bs) (readSection x)) where
   pub readable : unreadable (readSection x) ≡ false
@@ -29,11 +30,11 @@ module _ (bs : List ℕ) (x : StoredSection) (here : ReadIn (length bs) (readSec
   pub text-mark : x .kind ≡ markKind → wordsText bs x ≡ markLine (x .first)
   text-mark k = text-of _ (mark-read (reads x) readable k)
 
-  pub text-ops : x .kind ≡ opsKind → SpanIn (length bs) (span (x .first) (x .second)) × (wordsText bs x ≡ opsLines (spanBytes bs (span (x .first) (x .second))))
-  text-ops k = let e = ops-read (reads x) readable k in (subst (ReadIn (length bs)) e here, text-of _ e)
+  pub text-ops : x .kind ≡ opsKind → wordsText bs x ≡ opsLines (spanBytes bs (span (x .first) (x .second)))
+  text-ops k = text-of _ (ops-read (reads x) readable k)
 
-  pub text-data : x .kind ≡ dataKind → SpanIn (length bs) (span (x .first) (x .second)) × (wordsText bs x ≡ dataLine (spanBytes bs (span (x .first) (x .second))))
-  text-data k = let e = data-read (reads x) readable k in (subst (ReadIn (length bs)) e here, text-of _ e)
+  pub text-data : x .kind ≡ dataKind → wordsText bs x ≡ dataLine (spanBytes bs (span (x .first) (x .second)))
+  text-data k = text-of _ (data-read (reads x) readable k)
 
   pub text-reference : (r : AsmReference) → readSection x ≡ Read (MarkRef r) → wordsText bs x ≡ referenceLine r
   text-reference r e = text-of _ e

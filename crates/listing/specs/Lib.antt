@@ -1,6 +1,5 @@
-pub mod Decimal
 pub mod Listing
 pub mod Answer
 pub mod ListingAnswers
-pub mod Put
+pub mod Room
 pub mod Sink

@@ -1,10 +1,6 @@
-// Document 01, module 5: the listing of a store (display.rs), `write_asm`. Two of its writers are public beside it, in `text`: bytes in
-// hex and a number in decimal, over a part of a lent text.
-mod lines;
-mod ops;
+// Document 01, module 5: the listing of a store (display.rs), `write_asm`. The lines themselves are put by `lines`.
 mod sections;
 mod sink;
-pub mod text;
 
 use records::Assembler;
 use records::Soundness;
@@ -16,7 +12,7 @@ ghost use lib.ListN.{length};
 ghost use Rattle.records.specs.Store.{storeOf, wordsPerSection};
 ghost use Rattle.undamaged.specs.View.{Undamaged};
 ghost use Rattle.listing.specs.Answer.{listedReply, listingReply, listingBuffer};
-ghost use Rattle.listing.specs.Put.{storeText};
+ghost use Rattle.listing.specs.Room.{storeText};
 
 // The answer to a listing call: the text's length, or a refusal.
 pub enum Listed {

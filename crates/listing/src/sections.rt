@@ -23,11 +23,12 @@ ghost use mathlib.Core.Path.{_≡_};
 ghost use mathlib.Core.Bool.{false};
 ghost use Prim.Native.Nat.{_+_, _*_, _≤_};
 ghost use lib.ListN.{length};
+ghost use lib.Seq.{sets};
 ghost use Rattle.records.specs.Record.{directKind, readSection};
 ghost use Rattle.records.specs.Damage.{unreadable};
 ghost use Rattle.records.specs.Store.{wordsPerSection, wordsAt};
 ghost use Rattle.undamaged.specs.Section.{ReadIn, marksOf};
-ghost use Rattle.listing.specs.Put.{Put, Room, wordsText, storeText, storeWith, Listable};
+ghost use Rattle.listing.specs.Room.{Room, wordsText, storeText, storeWith, Listable};
 ghost use Rattle.listing.specs.Sink.{added};
 
 // The three words of section i. A copy of the reader in `records`, private and so without a test of the index, with which a listing takes
@@ -130,8 +131,9 @@ pub(crate) fn write_store(
 ) -> usize
     requires { ⌜ Listable wordsPerSection (storeWith stored sections (now bytes) (now words)) 0 ⌝ }
     ensures { λ r.
-        ⌜ Put (now (text .entry)) 0
-        (storeText wordsPerSection (storeWith stored sections (now (bytes .entry)) (now (words .entry)))) r (now (text .exit)) ⌝ }
+        ⌜ (r ≡ length (storeText wordsPerSection (storeWith stored sections (now (bytes .entry)) (now (words .entry)))))
+        × (now (text .exit)
+        ≡ sets (now (text .entry)) 0 (storeText wordsPerSection (storeWith stored sections (now (bytes .entry)) (now (words .entry))))) ⌝ }
 {
     let sink = add_sections(new(text), stored, sections, bytes, words);
     sink.count

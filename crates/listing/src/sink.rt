@@ -1,19 +1,18 @@
 // The text sink: a lent slice and the count of bytes written. Every line is added through it: an adder takes the sink and hands it back,
 // the line written and the count advanced. Each is thin over the covered function on the slice and the number, and its proof is a walk
 // of its MIR by hand (proofs/Adding, proofs/AddingFrom: one law for each of two signatures).
-use crate::lines::put_data_line;
-use crate::lines::put_mark_line;
-use crate::lines::put_reference_line;
-use crate::ops::put_ops_lines;
+use lines::put_data_line;
+use lines::put_mark_line;
+use lines::put_ops_lines;
+use lines::put_reference_line;
 use units::AsmReference;
 use units::BytesSpan;
 use units::MarkId;
 ghost use mathlib.Core.Path.{_≡_};
-ghost use lib.ListN.{length};
-ghost use Rattle.undamaged.specs.Section.{spanBytes, SpanIn};
-ghost use Rattle.listing.specs.Put.{Room};
+ghost use Rattle.undamaged.specs.Section.{spanBytes};
+ghost use Rattle.lines.specs.Lines.{markLine, dataLine, opsLines, referenceLine};
+ghost use Rattle.listing.specs.Room.{Room};
 ghost use Rattle.listing.specs.Sink.{added};
-ghost use Rattle.listing.specs.Listing.{markLine, dataLine, opsLines, referenceLine};
 
 pub struct TextSink<'a> {
     pub(crate) text: &'a mut [u8],
@@ -49,7 +48,7 @@ pub(crate) fn add_data_line<'a, 'b>(
     bytes: &'b [u8],
     span: BytesSpan,
 ) -> TextSink<'a>
-    requires { ⌜ SpanIn (length (now bytes)) span × Room (sink .count) (dataLine (spanBytes (now bytes) span)) ⌝ }
+    requires { ⌜ Room (sink .count) (dataLine (spanBytes (now bytes) span)) ⌝ }
     ensures { λ r. ⌜ r ≡ added (sink .entry) (dataLine (spanBytes (now (bytes .entry)) span)) ⌝ }
 {
     let at = sink.count;
@@ -66,7 +65,7 @@ pub(crate) fn add_ops_lines<'a, 'b>(
     bytes: &'b [u8],
     span: BytesSpan,
 ) -> TextSink<'a>
-    requires { ⌜ SpanIn (length (now bytes)) span × Room (sink .count) (opsLines (spanBytes (now bytes) span)) ⌝ }
+    requires { ⌜ Room (sink .count) (opsLines (spanBytes (now bytes) span)) ⌝ }
     ensures { λ r. ⌜ r ≡ added (sink .entry) (opsLines (spanBytes (now (bytes .entry)) span)) ⌝ }
 {
     let at = sink.count;

@@ -16,8 +16,8 @@ use Rattle.evm.specs.declared.op.PushSize.the-variants.{NoPush, Bytes}
 use Rattle.evm.proofs.Opcodes.{push-bytes, push-none}
 use Rattle.opcodes.specs.Text.{asBytes}
 use Rattle.opcodes.specs.Names.{opName}
-use Rattle.listing.specs.Listing.{hex, immediateText, instructionLine, opsLines}
-use Rattle.listing.proofs.Turns.{immediate-cut, immediate-whole, immediate-none, ops-more, ops-none}
+use Rattle.lines.specs.Lines.{hex, immediateText, instructionLine, opsLines}
+use Rattle.lines.proofs.Turns.{immediate-cut, immediate-whole, immediate-none, ops-more, ops-none}
 use Rattle.rust_model.specs.Display as rust
 use Rattle.rust_model.proofs.Text.{hex-same}
 

@@ -17,8 +17,8 @@ use Rattle.units.specs.declared.MarkReference.the-variants.{Direct, Delta}
 use Rattle.units.specs.declared.AsmReference.{AsmReference}
 use Rattle.units.specs.Reference.{refSizeBytes}
 use Rattle.opcodes.specs.Text.{asBytes}
-use Rattle.listing.specs.Decimal.{digit, lastDigits, decimal}
-use Rattle.listing.specs.Listing as ours
+use Rattle.lines.specs.Decimal.{digit, lastDigits, decimal}
+use Rattle.lines.specs.Lines as ours
 use Rattle.rust_model.specs.Sections.{asU32}
 use Rattle.rust_model.specs.Display as rust
 

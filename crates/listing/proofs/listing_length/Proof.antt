@@ -2,7 +2,9 @@
 -- Assumes nothing.
 use borrow.Author.Needs.{needs}
 use denote.Ref.{now}
-use Rattle.listing.proofs.Puts.{put-end}
+use Rattle.records.specs.Store.{wordsPerSection, storeOf}
+use Rattle.listing.specs.Room.{storeText}
+use Rattle.lines.proofs.Puts.{end-same}
 use Rattle.listing.proofs.Every.{listable}
 use Rattle.listing.proofs.listing_length.Statement.{statement}
 use Rattle.listing.proofs.listing_length.Tie as tie
@@ -28,7 +30,10 @@ returns : tie.Need-returns
 returns c =
     let written = c .before .before in
     let start = written .before .before .before .before .before in
-    put-end (now (start .args .text)) (written .write-store .ensures)
+    let a = start .args in
+    let listed = storeText wordsPerSection (storeOf (a .store) (now (a .bytes)) (now (a .words))) in
+    let ensures = written .write-store .ensures in
+    (ensures .0, end-same (now (a .text)) listed (ensures .1))
 
 pub listing-length-spec : {M : Type 1} → statement M
 listing-length-spec = tie.close (tie.spec sub-write-store part-write-store-start part-write-store-end write-store-requires same-length returns)

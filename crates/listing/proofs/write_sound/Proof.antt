@@ -37,7 +37,7 @@ returns-2 c =
     let fits = written .before .before in
     let counted = fits .before .before .before in
     let length = counted .listing-length .ensures in
-    answers-text _ _ _ (start-of counted .pre) _ (length .0) (length .1) (fits .if1 .left) (written .write-store .ensures)
+    answers-text _ _ _ (start-of counted .pre) _ (length .0) (length .1) (fits .if1 .left) (written .write-store .ensures .1)
 
 pub write-sound-spec : {M : Type 1} → statement M
 write-sound-spec = tie.close (tie.spec listing-length-requires same-length returns write-store-requires same-length-2 returns-2)

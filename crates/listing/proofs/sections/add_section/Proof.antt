@@ -56,12 +56,12 @@ use Rattle.records.specs.declared.record.SectionRead.the-variants.{Read}
 use Rattle.records.specs.declared.record.StoredSection.{StoredSection}
 use Rattle.records.proofs.record.StoredSection as S
 use Rattle.records.proofs.record.StoredSection.Laws as S′
-use Rattle.undamaged.specs.Section.{spanBytes, SpanIn, ReadIn}
-use Rattle.listing.specs.Listing.{markLine, opsLines, dataLine, referenceLine}
-use Rattle.listing.specs.Put.{wordsText, Room}
+use Rattle.undamaged.specs.Section.{spanBytes, ReadIn}
+use Rattle.lines.specs.Lines.{markLine, opsLines, dataLine, referenceLine}
+use Rattle.listing.specs.Room.{wordsText, Room}
 use Rattle.listing.specs.Sink.{added}
 use Rattle.listing.specs.declared.sink.TextSink.{TextSink}
-use Rattle.listing.proofs.Turns.{room-is}
+use Rattle.listing.proofs.Added.{room-is}
 use Rattle.listing.proofs.SectionLines.{readable, text-mark, text-ops, text-data, text-reference}
 use Rattle.listing.proofs.sink.TextSink as T
 use Rattle.listing.proofs.sink.TextSink.Laws as T′
@@ -86,12 +86,12 @@ use Rattle.listing.proofs.sections.add_section.Key.{name}
 use Rattle.listing.proofs.sections.add_section.Statement.{statement}
 use Rattle.listing.proofs.sections.add_section.Code as code
 
--- what the words ask of the bytes, and the lines' texts
+-- what the words ask of the bytes, what is asked of a place, and the lines' texts
 abbrev Needs : List ℕ → StoredSection → Type 0
 Needs bs x = ReadIn (length bs) (readSection x)
 
-abbrev inBytes : List ℕ → BytesSpan → Type 0
-inBytes bs s = SpanIn (length bs) s
+abbrev Asked : ℕ → List ℕ → StoredSection → Type 0
+Asked at bs x = Needs bs x × Room at (wordsText bs x)
 
 abbrev markText : MarkId → List ℕ
 markText m = markLine (m .0)
@@ -102,15 +102,21 @@ opsText bs s = opsLines (spanBytes bs s)
 abbrev dataText : List ℕ → BytesSpan → List ℕ
 dataText bs s = dataLine (spanBytes bs s)
 
+abbrev opsRoom : ℕ → List ℕ → BytesSpan → Type 0
+opsRoom at bs s = Room at (opsText bs s)
+
+abbrev dataRoom : ℕ → List ℕ → BytesSpan → Type 0
+dataRoom at bs s = Room at (dataText bs s)
+
 -- the contracts that the proof cites
 abbrev MarkC : {M : Type 1} (𝓤 : URA M) (H : Heap 𝓤) (A : Atoms 𝓤) → Contract 𝓤
 MarkC = A₁.AddC mark-value markText
 
 abbrev OpsC : {M : Type 1} (𝓤 : URA M) (H : Heap 𝓤) (A : Atoms 𝓤) → Contract 𝓤
-OpsC = A₂.AddC span-value inBytes opsText
+OpsC = A₂.AddC span-value opsRoom opsText
 
 abbrev DataC : {M : Type 1} (𝓤 : URA M) (H : Heap 𝓤) (A : Atoms 𝓤) → Contract 𝓤
-DataC = A₂.AddC span-value inBytes dataText
+DataC = A₂.AddC span-value dataRoom dataText
 
 abbrev ReferenceC : {M : Type 1} (𝓤 : URA M) (H : Heap 𝓤) (A : Atoms 𝓤) → Contract 𝓤
 ReferenceC = A₁.AddC reference-value referenceLine
@@ -276,16 +282,16 @@ module _ {M : Type 1} (𝓤 : URA M) (H : Heap 𝓤) (A : Atoms 𝓤) (W : Given
           (from ! (stop !)) (init ! 7 refl (tt, ((record { fits = fits .1 .0 }, tt), ((record { fits = fits .1 .1 }, tt), tt)))) $
           -- the bytes are had twice: [the bytes; the bytes; the sink; the tokens; _16; …]
           move ! (2 ∷ []) $ use1 W (‵ OwnB ⊛ ‵ OwnB) (shr-slice-copy 𝓤 H A W (named 1) κ′ u8 .twice xb (sb ∷ [])) $ split ! $ move ! (3 ∷ 2 ∷ 0 ∷ []) $ group ! 3 $
-          use1 W (raw (OpsC 𝓤 H A .pre (A₂.to-add span-value inBytes opsText 𝓤 H A W κ κ′ q q′ h w₀ xb sp)))
-          (A₂.add-pre span-value inBytes opsText 𝓤 H A W κ κ′ q q′ h w₀ xb sp sp-is (text-ops (now xb) v ok k .0, room-is _ (text-ops (now xb) v ok k .1) room)) $
-          calls-at-last ! fm (OpsC 𝓤 H A) known-ops (A₂.to-add span-value inBytes opsText 𝓤 H A W κ κ′ q q′ h w₀ xb sp)
+          use1 W (raw (OpsC 𝓤 H A .pre (A₂.to-add span-value opsRoom opsText 𝓤 H A W κ κ′ q q′ h w₀ xb sp)))
+          (A₂.add-pre span-value opsRoom opsText 𝓤 H A W κ κ′ q q′ h w₀ xb sp sp-is (room-is _ (text-ops (now xb) v ok k) room)) $
+          calls-at-last ! fm (OpsC 𝓤 H A) known-ops (A₂.to-add span-value opsRoom opsText 𝓤 H A W κ κ′ q q′ h w₀ xb sp)
           (and-then ! (load ! (from ! (stop !)) (look ! 9 refl)) (and-then ! (load ! (from ! (stop !)) (look ! 4 refl)) (and-then ! (load ! (from ! (stop !)) (look ! 6 refl)) (no-more !)))) (λ w.
           use1 W (later (some (λ (g : TextSink). given (g ≡ added h (opsText (now xb) sp)) (Tokens ⊛ ‵ (Sink κ .own g (w ∷ []))))))
-          (A₂.add-post span-value inBytes opsText 𝓤 H A W κ κ′ q q′ h w₀ xb sp w) $ await ! tt $ pick ! (λ g. learn ! (λ e. split ! $
+          (A₂.add-post span-value opsRoom opsText 𝓤 H A W κ κ′ q q′ h w₀ xb sp w) $ await ! tt $ pick ! (λ g. learn ! (λ e. split ! $
           -- [the tokens; the sink; the bytes; _16; …]
           move ! (1 ∷ []) $ peeks ! (Sink κ) (Is (Sink κ)) (shows 𝓤 H A (Sink κ)) g (w ∷ []) (λ is.
           land-last ! (from ! (stop !)) (init ! 3 refl (sink-typed κ g w is)) $ forget ! 10 refl $ forget ! 9 refl $ forget ! 8 refl $ forget ! 7 refl $
-          exec ! C Λ En last (atRet En Post) $ go g w (e ∙ ap (added h) (sym (text-ops (now xb) v ok k .1))) is))))
+          exec ! C Λ En last (atRet En Post) $ go g w (e ∙ ap (added h) (sym (text-ops (now xb) v ok k))) is))))
 
       abbrev data-code : Body
       data-code =
@@ -304,16 +310,16 @@ module _ {M : Type 1} (𝓤 : URA M) (H : Heap 𝓤) (A : Atoms 𝓤) (W : Given
           (from ! (stop !)) (init ! 7 refl (tt, ((record { fits = fits .1 .0 }, tt), ((record { fits = fits .1 .1 }, tt), tt)))) $
           -- the bytes are had twice: [the bytes; the bytes; the sink; the tokens; _16; …]
           move ! (2 ∷ []) $ use1 W (‵ OwnB ⊛ ‵ OwnB) (shr-slice-copy 𝓤 H A W (named 1) κ′ u8 .twice xb (sb ∷ [])) $ split ! $ move ! (3 ∷ 2 ∷ 0 ∷ []) $ group ! 3 $
-          use1 W (raw (DataC 𝓤 H A .pre (A₂.to-add span-value inBytes dataText 𝓤 H A W κ κ′ q q′ h w₀ xb sp)))
-          (A₂.add-pre span-value inBytes dataText 𝓤 H A W κ κ′ q q′ h w₀ xb sp sp-is (text-data (now xb) v ok k .0, room-is _ (text-data (now xb) v ok k .1) room)) $
-          calls-at-last ! fm (DataC 𝓤 H A) known-data (A₂.to-add span-value inBytes dataText 𝓤 H A W κ κ′ q q′ h w₀ xb sp)
+          use1 W (raw (DataC 𝓤 H A .pre (A₂.to-add span-value dataRoom dataText 𝓤 H A W κ κ′ q q′ h w₀ xb sp)))
+          (A₂.add-pre span-value dataRoom dataText 𝓤 H A W κ κ′ q q′ h w₀ xb sp sp-is (room-is _ (text-data (now xb) v ok k) room)) $
+          calls-at-last ! fm (DataC 𝓤 H A) known-data (A₂.to-add span-value dataRoom dataText 𝓤 H A W κ κ′ q q′ h w₀ xb sp)
           (and-then ! (load ! (from ! (stop !)) (look ! 9 refl)) (and-then ! (load ! (from ! (stop !)) (look ! 4 refl)) (and-then ! (load ! (from ! (stop !)) (look ! 6 refl)) (no-more !)))) (λ w.
           use1 W (later (some (λ (g : TextSink). given (g ≡ added h (dataText (now xb) sp)) (Tokens ⊛ ‵ (Sink κ .own g (w ∷ []))))))
-          (A₂.add-post span-value inBytes dataText 𝓤 H A W κ κ′ q q′ h w₀ xb sp w) $ await ! tt $ pick ! (λ g. learn ! (λ e. split ! $
+          (A₂.add-post span-value dataRoom dataText 𝓤 H A W κ κ′ q q′ h w₀ xb sp w) $ await ! tt $ pick ! (λ g. learn ! (λ e. split ! $
           -- [the tokens; the sink; the bytes; _16; …]
           move ! (1 ∷ []) $ peeks ! (Sink κ) (Is (Sink κ)) (shows 𝓤 H A (Sink κ)) g (w ∷ []) (λ is.
           land-last ! (from ! (stop !)) (init ! 3 refl (sink-typed κ g w is)) $ forget ! 10 refl $ forget ! 9 refl $ forget ! 8 refl $ forget ! 7 refl $
-          exec ! C Λ En last (atRet En Post) $ go g w (e ∙ ap (added h) (sym (text-data (now xb) v ok k .1))) is))))
+          exec ! C Λ En last (atRet En Post) $ go g w (e ∙ ap (added h) (sym (text-data (now xb) v ok k))) is))))
 
       -- a kind that is none of these is a reference's
       abbrev None : Type 0
@@ -388,10 +394,10 @@ module _ {M : Type 1} (𝓤 : URA M) (H : Heap 𝓤) (A : Atoms 𝓤) (W : Given
 
     -- the end of an adder's walk
     abbrev Post₀ : Val → SProp 𝓤
-    Post₀ = A₂.Post words-value Needs wordsText 𝓤 H A W κ κ′ q q′ (h .text .ptr .0) (h .text .ptr .1) (h .text .name) (h .text .now) (h .count) h-fits xb v v-is
+    Post₀ = A₂.Post words-value Asked wordsText 𝓤 H A W κ κ′ q q′ (h .text .ptr .0) (h .text .ptr .1) (h .text .name) (h .text .now) (h .count) h-fits xb v v-is
 
     exits₀ : (g : TextSink) (w : Val) → g ≡ added h t → ent 𝓤 (⋆ 𝓤 H A (Tokens ∷ ‵ (Sink κ .own g (w ∷ [])) ∷ ‵ OwnB ∷ [])) (Post₀ w)
-    exits₀ = A₂.exits words-value Needs wordsText 𝓤 H A W κ κ′ q q′ (h .text .ptr .0) (h .text .ptr .1) (h .text .name) (h .text .now) (h .count) h-fits xb v v-is
+    exits₀ = A₂.exits words-value Asked wordsText 𝓤 H A W κ κ′ q q′ (h .text .ptr .0) (h .text .ptr .1) (h .text .name) (h .text .now) (h .count) h-fits xb v v-is
 
     walk : Is (Sink κ) h (w₀ ∷ []) → Is (Bytes κ′) xb (sb ∷ []) → Needs (now xb) v → Room (h .count) t
         → ent 𝓤 (onEntry 𝓤 H A this.signature (κ, (κ′, tt)) (q, (q′, tt)) (h, (xb, (v, tt))) (w₀ ∷ [], (sb ∷ [], (sv ∷ [], tt)))) (WpFn 𝓤 H C Λ code.function (w₀ ∷ sb ∷ sv ∷ []) Post₀)
@@ -408,12 +414,12 @@ module _ {M : Type 1} (𝓤 : URA M) (H : Heap 𝓤) (A : Atoms 𝓤) (W : Given
 module _ {M : Type 1} (𝓤 : URA M) (H : Heap 𝓤) (A : Atoms 𝓤) (W : Given 𝓤 H A) (mem : Memory → SProp 𝓤) (run : Routine → Fun 𝓤) where
   add-section-walks : (C : Calls 𝓤 H) (Λ : Loops 𝓤 H) → FmC 𝓤 H (W .laws) C → Triple 𝓤 (C mark-def.name) (MarkC 𝓤 H A) → Triple 𝓤 (C ops-def.name) (OpsC 𝓤 H A)
       → Triple 𝓤 (C data-def.name) (DataC 𝓤 H A) → Triple 𝓤 (C reference-in-def.name) (InC 𝓤 H A mem run) → Triple 𝓤 (C reference-def.name) (ReferenceC 𝓤 H A)
-      → Walks 𝓤 H A this.ended (A₂.stayed words-value Needs wordsText) (WpFn 𝓤 H C Λ code.function) (A₂.add-clauses words-value Needs wordsText 𝓤)
+      → Walks 𝓤 H A this.ended (A₂.stayed words-value Asked wordsText) (WpFn 𝓤 H C Λ code.function) (A₂.add-clauses words-value Asked wordsText 𝓤)
   add-section-walks C Λ fm of-mark of-ops of-data of-in of-reference =
-      walked 𝓤 H A this.ended (A₂.stayed words-value Needs wordsText) (A₂.add-clauses words-value Needs wordsText 𝓤) (WpFn 𝓤 H C Λ code.function)
+      walked 𝓤 H A this.ended (A₂.stayed words-value Asked wordsText) (A₂.add-clauses words-value Asked wordsText 𝓤) (WpFn 𝓤 H C Λ code.function)
       (λ κs. (LL.vals (T.the-type (namedLft 2 0 tt κs)) (T′.the-laws (namedLft 2 0 tt κs)), (slice-vals, (LL.vals S.the-type S′.the-laws, tt))))
       (λ κs. (LL.tells (T.the-type (namedLft 2 0 tt κs)) (T′.the-laws (namedLft 2 0 tt κs)), (shr-slice-tells (named 1) (κs .1 .0) u8, (LL.tells S.the-type S′.the-laws, tt))))
-      (λ κs qs bounds a g are. needs 𝓤 (A₂.Asked words-value Needs wordsText (a .0 .count) (now (a .1 .0)) (a .1 .1 .0)) _ (λ ok.
+      (λ κs qs bounds a g are. needs 𝓤 (Asked (a .0 .count) (now (a .1 .0)) (a .1 .1 .0)) _ (λ ok.
       let parts = LL.owed (T.the-type (namedLft 2 0 tt κs)) (T′.the-laws (namedLft 2 0 tt κs)) (a .0) _ (are .0) in
       walk 𝓤 H A W mem run (κs .0) (κs .1 .0) (qs .0) (qs .1 .0) (a .0) (parts .1 .0 .1) (a .1 .0) (a .1 .1 .0) (are .1 .1 .0) C Λ fm of-mark of-ops of-data of-in of-reference
       (are .0) (are .1 .0) (ok .0) (ok .1)))
@@ -426,8 +432,8 @@ add-section-spec 𝓤 H 𝓜 𝓖 𝓡 =
     let 𝓣 = tables 𝓤 H 𝓜 𝓡 code.env in
     let closed = tablesOf 𝓤 H 𝓜 𝓣 in
     entered 𝓤 H (tripleOf 𝓤 H A this.signature (this.spec 𝓤 H A (𝓜 .mem) (𝓡 .run))) (𝓣 .C) (𝓣 .Λ) name code.function (code.unfolded 𝓤 H 𝓜 𝓡)
-    (walk-meets 𝓤 H A this.ended (A₂.stayed words-value Needs wordsText) W (A₂.goes-all words-value Needs wordsText 𝓤 H A W)
-    (A₂.add-clauses words-value Needs wordsText 𝓤) (WpFn 𝓤 H (closed .C) (closed .Λ) code.function) (WpFn-mono 𝓤 H (W .laws) closed code.function)
+    (walk-meets 𝓤 H A this.ended (A₂.stayed words-value Asked wordsText) W (A₂.goes-all words-value Asked wordsText 𝓤 H A W)
+    (A₂.add-clauses words-value Asked wordsText 𝓤) (WpFn 𝓤 H (closed .C) (closed .Λ) code.function) (WpFn-mono 𝓤 H (W .laws) closed code.function)
     (add-section-walks 𝓤 H A W (𝓜 .mem) (𝓡 .run) (closed .C) (closed .Λ) (fmOf 𝓤 H (W .laws) closed)
     (cited 𝓤 H (MarkC 𝓤 H A) 𝓜 𝓡 code.env mark-def.name mark-def.routine code.calls-listing·sink·add-mark-line (mark-thm.met 𝓤 H 𝓜 𝓖 𝓡))
     (cited 𝓤 H (OpsC 𝓤 H A) 𝓜 𝓡 code.env ops-def.name ops-def.routine code.calls-listing·sink·add-ops-lines (ops-thm.met 𝓤 H 𝓜 𝓖 𝓡))

@@ -53,7 +53,7 @@ use Rattle.records.proofs.record.StoredSection as S
 use Rattle.records.proofs.record.StoredSection.Laws as S′
 use Rattle.undamaged.specs.Section.{ReadIn}
 use Rattle.undamaged.proofs.Soundness.{undamaged-iff}
-use Rattle.listing.specs.Put.{wordsText, storeText, storeWith, Listable}
+use Rattle.listing.specs.Room.{Room, wordsText, storeText, storeWith, Listable}
 use Rattle.listing.specs.Sink.{added}
 use Rattle.listing.specs.declared.sink.TextSink.{TextSink}
 use Rattle.listing.proofs.Every.{rest, rest-start, every-turn, every-room, every-done, words-in}
@@ -87,11 +87,11 @@ stayed = (
 )
 
 -- ---- the contracts that the proof cites
-abbrev Needs : List ℕ → StoredSection → Type 0
-Needs bs x = ReadIn (length bs) (readSection x)
+abbrev Asked : ℕ → List ℕ → StoredSection → Type 0
+Asked at bs x = ReadIn (length bs) (readSection x) × Room at (wordsText bs x)
 
 abbrev SectionC : {M : Type 1} (𝓤 : URA M) (H : Heap 𝓤) (A : Atoms 𝓤) → Contract 𝓤
-SectionC = A₂.AddC words-value Needs wordsText
+SectionC = A₂.AddC words-value Asked wordsText
 
 abbrev WordsC : {M : Type 1} (𝓤 : URA M) (H : Heap 𝓤) (A : Atoms 𝓤) (mem : Memory → SProp 𝓤) (run : Routine → Fun 𝓤) → Contract 𝓤
 WordsC 𝓤 H A mem run = tripleOf 𝓤 H A section-words.signature (section-words.spec 𝓤 H A mem run)
@@ -260,13 +260,13 @@ module _ {M : Type 1} (𝓤 : URA M) (H : Heap 𝓤) (A : Atoms 𝓤) (W : Given
           -- `add_section`, with the other two tokens and one of the bytes' two: [the bytes; the words' token; the words; _9; …]
           move ! (5 ∷ []) $ use1 W (‵ OwnB ⊛ ‵ OwnB) (shr-slice-copy 𝓤 H A W (named 1) κ′ u8 .twice xb (sb ∷ [])) $ split ! $
           nothing ! $ move ! (5 ∷ 0 ∷ []) $ join ! $ move ! (5 ∷ 0 ∷ []) $ join ! $ move ! (0 ∷ 5 ∷ 1 ∷ []) $ group ! 3 $
-          use1 W (raw (SectionC 𝓤 H A .pre (A₂.to-add words-value Needs wordsText 𝓤 H A W κ κ′ q q′ (x .sink) (x .w) xb v)))
-          (A₂.add-pre words-value Needs wordsText 𝓤 H A W κ κ′ q q′ (x .sink) (x .w) xb v (subst (Is S.the-row v) (LL.tells S.the-type S′.the-laws v _ vi) vi)
+          use1 W (raw (SectionC 𝓤 H A .pre (A₂.to-add words-value Asked wordsText 𝓤 H A W κ κ′ q q′ (x .sink) (x .w) xb v)))
+          (A₂.add-pre words-value Asked wordsText 𝓤 H A W κ κ′ q q′ (x .sink) (x .w) xb v (subst (Is S.the-row v) (LL.tells S.the-type S′.the-laws v _ vi) vi)
           (words-in wordsPerSection st (undamaged-iff wordsPerSection st .0 (ok .sound)) (x .i) v l ev, every-room wordsPerSection st (x .sink) (x .i) (x .left) l v ev (ok .room .fits))) $
-          calls-at ! fm (SectionC 𝓤 H A) known-section (A₂.to-add words-value Needs wordsText 𝓤 H A W κ κ′ q q′ (x .sink) (x .w) xb v)
+          calls-at ! fm (SectionC 𝓤 H A) known-section (A₂.to-add words-value Asked wordsText 𝓤 H A W κ κ′ q q′ (x .sink) (x .w) xb v)
           (and-then ! (load ! (from ! (stop !)) (look ! 6 refl)) (and-then ! (load ! (from ! (stop !)) (look ! 14 refl)) (and-then ! (load ! (from ! (stop !)) (look ! 4 refl)) (no-more !)))) (λ u.
           use1 W (later (some (λ (g : TextSink). given (g ≡ added (x .sink) (wordsText (now xb) v)) ((‵ (flft κ q) ⊛ ‵ (flft κ′ q′) ⊛ ‵ ftrue) ⊛ ‵ (Sink κ .own g (u ∷ []))))))
-          (A₂.add-post words-value Needs wordsText 𝓤 H A W κ κ′ q q′ (x .sink) (x .w) xb v u) $ await ! tt $ pick ! (λ g. learn ! (λ eg. split ! $
+          (A₂.add-post words-value Asked wordsText 𝓤 H A W κ κ′ q q′ (x .sink) (x .w) xb v u) $ await ! tt $ pick ! (λ g. learn ! (λ eg. split ! $
           move ! (1 ∷ []) $ peeks ! (Sink κ) (Is (Sink κ)) (shows 𝓤 H A (Sink κ)) g (u ∷ []) (λ is.
           -- [the sink; its token and the bytes'; the bytes; the words' token; the words; _9; …]
           land ! (from ! (stop !)) (store ! 21 refl (sink-named 𝓤 H A W κ g u is)) $

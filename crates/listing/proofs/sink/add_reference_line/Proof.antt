@@ -3,11 +3,11 @@
 use contract.Running.{givenOf, tables, tablesOf}
 use denote.Triple.Spec.{tripleOf}
 use denote.Triple.Table.{entered, cited}
-use Rattle.listing.specs.Listing.{referenceLine}
+use Rattle.lines.specs.Lines.{referenceLine}
+use Rattle.lines.proofs.put_reference_line.Symbol as put
+use Rattle.lines.proofs.put_reference_line.Met as put-thm
 use Rattle.listing.proofs.Values.{reference-value}
 use Rattle.listing.proofs.Adding.{PutC, add-meets}
-use Rattle.listing.proofs.lines.put_reference_line.Symbol as put
-use Rattle.listing.proofs.lines.put_reference_line.Met as put-thm
 use Rattle.listing.proofs.sink.add_reference_line as this
 use Rattle.listing.proofs.sink.add_reference_line.Key.{name}
 use Rattle.listing.proofs.sink.add_reference_line.Statement.{statement}
@@ -22,4 +22,4 @@ add-reference-line-spec 𝓤 H 𝓜 𝓖 𝓡 =
     (add-meets reference-value referenceLine
     𝓤 H (𝓖 .A) (givenOf 𝓤 H 𝓜 𝓖) put.name (tablesOf 𝓤 H 𝓜 𝓣)
     (cited 𝓤 H (PutC reference-value referenceLine 𝓤 H (𝓖 .A))
-    𝓜 𝓡 code.env put.name put.routine code.calls-listing·lines·put-reference-line (put-thm.met 𝓤 H 𝓜 𝓖 𝓡)))
+    𝓜 𝓡 code.env put.name put.routine code.calls-lines·put-reference-line (put-thm.met 𝓤 H 𝓜 𝓖 𝓡)))

@@ -1,0 +1,31 @@
+-- The texts in a row.
+-- Assumes nothing.
+use borrow.Author.Needs.{needs}
+use native.Mathlib.Omega.{arith}
+use Rattle.opcodes.specs.Text.{asBytes}
+use Rattle.lines.specs.Lines.{markName}
+use Rattle.lines.proofs.Puts.{join}
+use Rattle.lines.proofs.put_mark_name.Statement.{statement}
+use Rattle.lines.proofs.put_mark_name.Tie as tie
+
+slice-aggregate-put : tie.Need-slice-aggregate-put
+slice-aggregate-put c = search needs
+
+put-requires : tie.Need-put-requires
+put-requires c κs = search needs
+
+put-decimal-requires : tie.Need-put-decimal-requires
+put-decimal-requires c κs = search needs
+
+same-length : tie.Need-same-length
+same-length c = search needs
+
+returns : tie.Need-returns
+unfolding markName asBytes
+returns c =
+    let numbered = c .before .before in
+    let named = numbered .before .before .before .before in
+    join (omega arith) (named .put .ensures) (numbered .put-decimal .ensures)
+
+pub put-mark-name-spec : {M : Type 1} → statement M
+put-mark-name-spec = tie.close (tie.spec slice-aggregate-put put-requires put-decimal-requires same-length returns)
