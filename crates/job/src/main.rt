@@ -4,11 +4,11 @@
 ghost use mathlib.Core.Path.{_≡_};
 ghost use Prim.Native.Nat.{_+_, _≤_};
 ghost use lib.ListN.{length};
-ghost use Rattle.jobs.specs.JobFormat.{maxJob};
+ghost use Rattle.job_steps.specs.JobFormat.{maxJob};
+use job_steps::MAX_JOB;
 use job_text::TEXT_BYTES;
 use job_text::write_text;
 use jobs::JobRun;
-use jobs::MAX_JOB;
 
 // Room for one byte more than the longest job, so that a longer one is seen.
 fn input_buffer() -> [u8; MAX_JOB + 1]

@@ -29,14 +29,14 @@ use Rattle.assembler.specs.Emission.{codeOf}
 use Rattle.assembler.specs.Assemble.{Outcome, isFull, writing, assembly}
 use Rattle.assembler.proofs.Outcomes.{outcome-cases}
 use Rattle.assembler.proofs.Laid.{laid}
-use Rattle.jobs.specs.JobFormat.{isJob, stepCount}
-use Rattle.jobs.specs.JobCalls.{jobCalls}
+use Rattle.job_steps.specs.JobFormat.{isJob, stepCount}
+use Rattle.job_steps.specs.JobCalls.{jobCalls}
 use Rattle.jobs.specs.JobText.{codeText, refusedText, textFor, longestText}
 use Rattle.jobs.specs.JobOutcome.{LentSlices, JobResult, emptyStore, assembledFrom, jobResult, ran, jobOutcome}
 use Rattle.job_text.specs.JobAnswers.{HasSections, Alike, SameText}
 use Rattle.job_text.specs.Printed.{storeBytes, resultBytes, tableMarks, zeros, requestSlices, Prints}
-use Rattle.jobs.proofs.JobCalls.{Plain, EveryPlain, job-plain}
-use Rattle.jobs.proofs.JobLoops.{job-facts}
+use Rattle.job_steps.proofs.JobCalls.{Plain, EveryPlain, job-plain}
+use Rattle.job_steps.proofs.JobLoops.{job-facts}
 use Rattle.jobs.proofs.JobMade.{callsReply, callsBuild, made-of-none, made-of-calls}
 use Rattle.job_text.proofs.JobNumbers.{built-list, listAssembly, assembly-by-list}
 use Rattle.job_text.proofs.JobNumbers.{empty-undamaged, Room, room-fits, room-next, job-room, plain-reply}

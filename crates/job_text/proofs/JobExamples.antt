@@ -20,8 +20,8 @@ use Rattle.assembler.specs.Emission.{referenceBytes, inARow}
 use Rattle.assembler.specs.Assemble.{assembly}
 use Rattle.lines.specs.Decimal.{lastDigits, decimal}
 use Rattle.lines.specs.Lines.{hexDigit, hex}
-use Rattle.jobs.specs.JobFormat.{stepsFrom, isListed, allListed, isJob}
-use Rattle.jobs.specs.JobCalls.{stepCall, builtBy}
+use Rattle.job_steps.specs.JobFormat.{stepsFrom, isListed, allListed, isJob}
+use Rattle.job_steps.specs.JobCalls.{stepCall, builtBy}
 use Rattle.jobs.specs.JobText.{codeText, refusedText, longestText}
 use Rattle.jobs.specs.JobOutcome.{LentSlices, lentSlices, jobResult, jobText}
 

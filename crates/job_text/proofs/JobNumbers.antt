@@ -29,12 +29,12 @@ use Rattle.layout.specs.Answer.{LayoutRefusal, shortTable, unplaced, placedApar
 use Rattle.layout.specs.Answer.{Answer, laidOut, noLayout, answer, answerReply, answerTable}
 use Rattle.settling.proofs.SettlingLaw.{sound-settles}
 use Rattle.assembler.specs.Assemble.{Outcome, isFull, writing, assembly}
-use Rattle.jobs.specs.JobFormat.{isJob}
-use Rattle.jobs.specs.JobCalls.{jobCalls, builtBy}
+use Rattle.job_steps.specs.JobFormat.{isJob}
+use Rattle.job_steps.specs.JobCalls.{jobCalls, builtBy}
 use Rattle.jobs.specs.JobOutcome.{LentSlices, JobResult, emptyStore, badJob, assembledFrom, jobResult}
 use Rattle.job_text.specs.JobAnswers.{FifteenIff, HasSections, EarlyRefusal, LateRefusal, NumbersOf}
-use Rattle.jobs.proofs.JobCalls.{Plain, EveryPlain, job-plain, length-calls}
-use Rattle.jobs.proofs.JobLoops.{built-next, job-facts}
+use Rattle.job_steps.proofs.JobCalls.{Plain, EveryPlain, job-plain, length-calls}
+use Rattle.job_steps.proofs.JobLoops.{built-next, job-facts}
 use Rattle.jobs.proofs.JobMade.{callsReply, callsBuild, made-of-none, made-of-calls}
 
 -- ---- a job's answer by cases

@@ -10,7 +10,7 @@ use Rattle.records.specs.declared.Assembler.{Assembler}
 use Rattle.records.specs.Store.{wordsPerSection}
 use Rattle.assembler.specs.Demand3.{Demand3}
 use Rattle.assembler.proofs.Demand3.{demand-3-assembly}
-use Rattle.jobs.specs.JobFormat.{isJob}
+use Rattle.job_steps.specs.JobFormat.{isJob}
 use Rattle.jobs.specs.JobOutcome.{LentSlices, jobResult}
 use Rattle.jobs.proofs.JobMade.{callsReply, callsBuild, made-of-calls}
 

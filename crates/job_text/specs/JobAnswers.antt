@@ -10,7 +10,7 @@ use lib.ListN.{length}
 use Rattle.units.specs.Replies.{largeMark, bytesFull, sectionsFull, shortTable, resultFull}
 use Rattle.units.specs.Reply.{refused}
 use Rattle.records.specs.Store.{wordsPerSection}
-use Rattle.jobs.specs.JobFormat.{stepCount, isJob}
+use Rattle.job_steps.specs.JobFormat.{stepCount, isJob}
 use Rattle.jobs.specs.JobOutcome.{LentSlices, badJob, jobResult, jobText}
 
 -- a job is refused with a number, a section and passes

@@ -5,7 +5,7 @@ use mathlib.Core.List.{List}
 use lib.ListN.{length, replicate}
 use Rattle.slices.specs.Over.{over}
 use Rattle.records.specs.Store.{wordsPerSection}
-use Rattle.jobs.specs.JobFormat.{stepCount}
+use Rattle.job_steps.specs.JobFormat.{stepCount}
 use Rattle.jobs.specs.JobOutcome.{LentSlices, lentSlices, jobResult, jobText, ran, jobOutcome}
 
 -- 'The program lends 65,536 store bytes, 65,536 result bytes, a section for each step and a table of 16,384 marks.'

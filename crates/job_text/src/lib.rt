@@ -5,7 +5,7 @@ use jobs::run_job;
 ghost use mathlib.Core.Path.{_≡_};
 ghost use lib.ListN.{length};
 ghost use Rattle.records.specs.Store.{wordsPerSection};
-ghost use Rattle.jobs.specs.JobFormat.{stepCount};
+ghost use Rattle.job_steps.specs.JobFormat.{stepCount};
 ghost use Rattle.jobs.specs.JobOutcome.{answerOf, jobOutcome, TextWithin};
 ghost use Rattle.job_text.specs.Printed.{storeBytes, resultBytes, tableMarks, requestSlices};
 

@@ -12,10 +12,12 @@ use Rattle.calls.specs.Calls.{BuiltReply, Push, pushAfter, allReply}
 use Rattle.calls.proofs.Refusals.{all-first}
 use Rattle.layout.specs.Answer.{Laid}
 use Rattle.assembler.specs.Assemble.{assembly}
-use Rattle.jobs.specs.JobFormat.{isJob}
-use Rattle.jobs.specs.JobCalls.{jobCalls, builtBy}
+use Rattle.job_steps.specs.JobFormat.{isJob}
+use Rattle.job_steps.specs.JobCalls.{jobCalls, builtBy}
 use Rattle.jobs.specs.JobOutcome.{LentSlices, JobResult, lentSlices, emptyStore, badJob, assembledFrom, jobResult}
-use Rattle.jobs.proofs.JobLoops.{built-next}
+use Rattle.job_steps.specs.JobBuild.{BuildAnswer, noJob, called}
+use Rattle.job_steps.proofs.JobLoops.{built-next}
+use Rattle.job_steps.proofs.JobBuilds.{Builds, none-told, called-told}
 
 -- where every call is accepted, the counts answered are those of what was built
 pub built-counts : (ps : List Push) (st : Store) (a : Assembler) → allReply wordsPerSection ps st ≡ accepted a → a ≡ countsOf (builtBy wordsPerSection ps st)
@@ -59,37 +61,45 @@ module _ (job bytes words table result : List ℕ) where
   says : (m : JobResult) → m ≡ jobResult wordsPerSection job lent → Says (m .reply) (m .slices)
   says m e = (ap (λ (x : JobResult). x .reply) e, ap (λ (x : JobResult). x .slices) e)
 
+  -- what the steps come to
+  abbrev pub Steps : BuildAnswer → List ℕ → List ℕ → Type 0
+  Steps answer bytes′ words′ = Builds wordsPerSection job (emptyStore lent) answer bytes′ words′
+
   -- 15: the slices as they were
-  pub made-bad : isJob job ≡ false → Says (refused badJob 0 0) lent
-  made-bad e = says (record { reply = refused badJob 0 0; slices = lent }) (sym (made-of-none job lent e))
+  pub made-bad : (bytes′ words′ : List ℕ) → Steps noJob bytes′ words′ → Says (refused badJob 0 0) (lentSlices bytes′ words′ table result)
+  made-bad bytes′ words′ h =
+      let none = none-told wordsPerSection job (emptyStore lent) h in
+      let m = says (record { reply = refused badJob 0 0; slices = lent }) (sym (made-of-none job lent (none .0))) in
+      (m .0, ap₂ (λ (x y : List ℕ). lentSlices x y table result) (none .1 .0) (none .1 .1) ∙ m .1)
 
-  module _ (good : isJob job ≡ true) where
-    -- a refused call: neither table nor result is touched
-    pub made-refused : (refusal : Refusal) (bytes′ words′ : List ℕ) → refusalReply refusal ≡ callsReply job lent
-        → bytes′ ≡ callsBuild job lent .bytes → words′ ≡ callsBuild job lent .words
-        → Says (refusalReply refusal) (lentSlices bytes′ words′ table result)
-    made-refused refusal bytes′ words′ e b w =
-        let m = says (assembledFrom wordsPerSection lent (refusalReply refusal) (callsBuild job lent)) (sym (made-of-calls job lent good (refusalReply refusal) (sym e))) in
-        (m .0, ap₂ (λ (x y : List ℕ). lentSlices x y table result) b w ∙ m .1)
+  -- a refused call: neither table nor result is touched
+  pub made-refused : (refusal : Refusal) (bytes′ words′ : List ℕ) → Steps (called (refusalReply refusal)) bytes′ words′
+      → Says (refusalReply refusal) (lentSlices bytes′ words′ table result)
+  made-refused refusal bytes′ words′ h =
+      let some = called-told wordsPerSection job (emptyStore lent) h in
+      let m = says (assembledFrom wordsPerSection lent (refusalReply refusal) (callsBuild job lent)) (sym (made-of-calls job lent (some .0) (refusalReply refusal) (sym (some .1 .0)))) in
+      (m .0, ap₂ (λ (x y : List ℕ). lentSlices x y table result) (some .1 .1 .0) (some .1 .1 .1) ∙ m .1)
 
-    -- else assembly
-    pub made-assembled : (a : Assembler) (bytes′ words′ table′ result′ : List ℕ) (reply : Reply Laid)
-        → accepted a ≡ callsReply job lent
-        → bytes′ ≡ callsBuild job lent .bytes → words′ ≡ callsBuild job lent .words
-        → reply ≡ assembly wordsPerSection (storeOf a bytes′ words′) (length table) result 0 .reply
-        → table′ ≡ assembly wordsPerSection (storeOf a bytes′ words′) (length table) result 0 .table
-        → result′ ≡ assembly wordsPerSection (storeOf a bytes′ words′) (length table) result 0 .result
-        → Says reply (lentSlices bytes′ words′ table′ result′)
-    made-assembled a bytes′ words′ table′ result′ reply e b w p q r =
-        let st = callsBuild job lent in
-        let counted : storeOf a bytes′ words′ ≡ storeOf (countsOf st) bytes′ words′ =
-        ap (λ (x : Assembler). storeOf x bytes′ words′) (built-counts (jobCalls job) (emptyStore lent) a (sym e)) in
-        let same : storeOf a bytes′ words′ ≡ st = counted ∙ ap₂ (λ (x y : List ℕ). storeOf (countsOf st) x y) b w in
-        let m = says (assembledFrom wordsPerSection lent (accepted a) st) (sym (made-of-calls job lent good (accepted a) (sym e))) in (
-          p ∙ ap (λ (s : Store). assembly wordsPerSection s (length table) result 0 .reply) same ∙ m .0,
-          ap₂ (λ (x y : List ℕ). lentSlices x y table′ result′) b w
-              ∙ ap₂ (λ (x y : List ℕ). lentSlices (st .bytes) (st .words) x y)
-              (q ∙ ap (λ (s : Store). assembly wordsPerSection s (length table) result 0 .table) same)
-              (r ∙ ap (λ (s : Store). assembly wordsPerSection s (length table) result 0 .result) same)
-              ∙ m .1,
-        )
+  -- else assembly
+  pub made-assembled : (a : Assembler) (bytes′ words′ table′ result′ : List ℕ) (reply : Reply Laid) → Steps (called (accepted a)) bytes′ words′
+      → reply ≡ assembly wordsPerSection (storeOf a bytes′ words′) (length table) result 0 .reply
+      → table′ ≡ assembly wordsPerSection (storeOf a bytes′ words′) (length table) result 0 .table
+      → result′ ≡ assembly wordsPerSection (storeOf a bytes′ words′) (length table) result 0 .result
+      → Says reply (lentSlices bytes′ words′ table′ result′)
+  made-assembled a bytes′ words′ table′ result′ reply h p q r =
+      let some = called-told wordsPerSection job (emptyStore lent) h in
+      let e = some .1 .0 in
+      let b = some .1 .1 .0 in
+      let w = some .1 .1 .1 in
+      let st = callsBuild job lent in
+      let counted : storeOf a bytes′ words′ ≡ storeOf (countsOf st) bytes′ words′ =
+      ap (λ (x : Assembler). storeOf x bytes′ words′) (built-counts (jobCalls job) (emptyStore lent) a (sym e)) in
+      let same : storeOf a bytes′ words′ ≡ st = counted ∙ ap₂ (λ (x y : List ℕ). storeOf (countsOf st) x y) b w in
+      let m = says (assembledFrom wordsPerSection lent (accepted a) st) (sym (made-of-calls job lent (some .0) (accepted a) (sym e))) in (
+        p ∙ ap (λ (s : Store). assembly wordsPerSection s (length table) result 0 .reply) same ∙ m .0,
+        ap₂ (λ (x y : List ℕ). lentSlices x y table′ result′) b w
+            ∙ ap₂ (λ (x y : List ℕ). lentSlices (st .bytes) (st .words) x y)
+            (q ∙ ap (λ (s : Store). assembly wordsPerSection s (length table) result 0 .table) same)
+            (r ∙ ap (λ (s : Store). assembly wordsPerSection s (length table) result 0 .result) same)
+            ∙ m .1,
+      )

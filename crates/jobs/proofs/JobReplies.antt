@@ -17,8 +17,8 @@ use Rattle.records.specs.Sections.{decode}
 use Rattle.assembler.specs.Assemble.{Outcome as Assembly, isFull, writing, assembly}
 use Rattle.assembler.proofs.Outcomes.{fits-law}
 use Rattle.jobs.specs.declared.JobReply.{JobReply}
-use Rattle.jobs.specs.JobFormat.{isJob}
-use Rattle.jobs.specs.JobCalls.{jobCalls, builtBy}
+use Rattle.job_steps.specs.JobFormat.{isJob}
+use Rattle.job_steps.specs.JobCalls.{jobCalls, builtBy}
 use Rattle.jobs.specs.JobText.{textFor, longestText}
 use Rattle.jobs.specs.JobOutcome.{LentSlices, emptyStore, jobReply, assembledFrom, JobResult, jobResult, FitsIn, JobAnswer, shortText, ran, JobOutcome, jobText, jobOutcome}
 

@@ -15,8 +15,8 @@ use Rattle.jobs.specs.declared.JobReply.{JobReply}
 use Rattle.jobs.specs.declared.JobReply.the-variants.{Code, Refused, BadJob}
 use Rattle.jobs.specs.declared.JobRun.{JobRun}
 use Rattle.jobs.specs.declared.JobRun.the-variants.{Ran, ShortText}
-use Rattle.jobs.specs.JobFormat.{isJob}
-use Rattle.jobs.specs.JobCalls.{jobCalls, builtBy}
+use Rattle.job_steps.specs.JobFormat.{isJob}
+use Rattle.job_steps.specs.JobCalls.{jobCalls, builtBy}
 use Rattle.jobs.specs.JobText.{textFor, longestText}
 
 -- 'Errors: 15 at 0'

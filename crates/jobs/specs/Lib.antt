@@ -1,4 +1,2 @@
-pub mod JobFormat
-pub mod JobCalls
 pub mod JobText
 pub mod JobOutcome

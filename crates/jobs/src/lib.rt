@@ -1,18 +1,14 @@
 // Document 02, request 2: a job, from its bytes to the text that is printed for it, on lent slices. `run_job` is the one public function.
-mod read;
-mod run;
+// What a job is, and its steps, stand in `job_steps`.
 mod text;
-mod validate;
 
 use assembler::Assembled;
 use assembler::assemble;
-use run::run_steps;
-use store::Built;
+use job_steps::JobBuilt;
+use job_steps::build_job;
 use text::write_code;
 use text::write_refused;
 use units::Refusal;
-pub use validate::MAX_JOB;
-use validate::is_job;
 ghost use mathlib.Core.Path.{_≡_};
 ghost use Prim.Native.Nat.{_≤_};
 ghost use lib.Dec.{ltb};
@@ -128,12 +124,10 @@ fn make(
         ≡ jobResult wordsPerSection (now (job .entry))
         (lentSlices (now (bytes .entry)) (now (words .entry)) (now (table .entry)) (now (result .entry))) .slices ⌝ }
 {
-    if !is_job(job) {
-        return JobReply::BadJob;
-    }
-    let built = run_steps(job, bytes, words);
+    let built = build_job(job, bytes, words);
     match built {
-        Built::Refused(refusal) => JobReply::Refused(refusal),
-        Built::Stored(store) => reply_of(assemble(store, bytes, words, table, result, 0)),
+        JobBuilt::BadJob => JobReply::BadJob,
+        JobBuilt::Refused(refusal) => JobReply::Refused(refusal),
+        JobBuilt::Stored(store) => reply_of(assemble(store, bytes, words, table, result, 0)),
     }
 }

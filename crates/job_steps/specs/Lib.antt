@@ -1,0 +1,3 @@
+pub mod JobFormat
+pub mod JobCalls
+pub mod JobBuild
