@@ -1,14 +1,13 @@
 -- What a job's steps come to, by its outcomes; and, for a caller, what each answer tells of the job. Assumes nothing.
 use Prim.Native.Nat.{ℕ}
 use mathlib.Core.Path.{_≡_, refl, sym, ap, _∙_}
-use mathlib.Core.Bool.{Bool, true, false, cond}
+use mathlib.Core.Bool.{Bool, true, false}
 use mathlib.Core.List.{List}
-use Rattle.units.specs.Reply.{accepted, refused}
 use Rattle.records.specs.Store.{Store}
 use Rattle.calls.specs.Calls.{BuiltReply, allReply}
 use Rattle.job_steps.specs.JobFormat.{isJob}
 use Rattle.job_steps.specs.JobCalls.{jobCalls, builtBy}
-use Rattle.job_steps.specs.JobBuild.{BuildAnswer, noJob, called, JobBuild, jobBuild}
+use Rattle.job_steps.specs.JobBuild.{BuildAnswer, noJob, called, jobBuild}
 
 module _ (w : ℕ) (job : List ℕ) (st : Store) where
   -- an answer and the two slices afterwards are the job's

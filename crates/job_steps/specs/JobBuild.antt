@@ -2,7 +2,7 @@
 use Prim.Native.Nat.{ℕ}
 use mathlib.Core.Bool.{cond}
 use mathlib.Core.List.{List}
-use Rattle.units.specs.Reply.{accepted, refused, refusalReply}
+use Rattle.units.specs.Reply.{accepted, refusalReply}
 use Rattle.records.specs.Store.{Store}
 use Rattle.calls.specs.Calls.{BuiltReply, allReply}
 use Rattle.job_steps.specs.declared.JobBuilt.{JobBuilt}

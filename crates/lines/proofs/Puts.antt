@@ -1,6 +1,6 @@
 -- Laws of putting text into a slice: two texts in a row are one; a loop's walk, of which what is done and what is left are the whole; and
 -- a text that is put whole or not at all. Assumes nothing.
-use Prim.Native.Nat.{ℕ, suc, _+_, _-_, _≤_, _<_, _^_, min}
+use Prim.Native.Nat.{ℕ, suc, _+_, _-_, _≤_, _<_, _^_}
 use native.Mathlib.Omega.{arith}
 use native.Mathlib.Nat.{add-zero, add-suc, suc-add}
 use mathlib.Core.Path.{_≡_, refl, sym, ap, _∙_, subst}

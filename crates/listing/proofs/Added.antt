@@ -7,7 +7,7 @@ use mathlib.Core.Path.{_≡_, sym, subst}
 use mathlib.Core.List.{List, [], _++_}
 use lib.ListN.{length, length-append}
 use lib.Seq.{sets}
-use denote.Ref.{RefT, now, at-last}
+use denote.Ref.{now, at-last}
 use Rattle.lines.specs.Put.{Put}
 use Rattle.lines.proofs.Puts.{sets-append}
 use Rattle.listing.specs.Room.{Room}

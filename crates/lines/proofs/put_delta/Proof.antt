@@ -1,7 +1,9 @@
 -- The texts in a row.
 -- Assumes nothing.
 use borrow.Author.Needs.{needs}
-use native.Mathlib.Omega.{arith}
+use Prim.Native.Nat.{_<_, _^_}
+use lib.ListN.{length}
+use denote.Ref.{now}
 use Rattle.opcodes.specs.Text.{asBytes}
 use Rattle.lines.specs.Lines.{deltaText}
 use Rattle.lines.proofs.Puts.{join}
@@ -43,7 +45,9 @@ returns c =
     let parted = started .before .before .before .before in
     let ended = parted .before .before .before .before .before in
     let opened = ended .before .before .before .before in
-    join (omega arith) (join (omega arith) (join (omega arith) (join (omega arith) (opened .put .ensures) (ended .put-mark-name .ensures)) (parted .put2 .ensures)) (started .put-mark-name2 .ensures))
+    let start = opened .before .before .before .before in
+    let short : length (now (start .args .text)) < 2 ^ 64 = start .good .0 .0 in
+    join short (join short (join short (join short (opened .put .ensures) (ended .put-mark-name .ensures)) (parted .put2 .ensures)) (started .put-mark-name2 .ensures))
     (closed .put3 .ensures)
 
 pub put-delta-spec : {M : Type 1} → statement M

@@ -1,7 +1,9 @@
 -- The texts in a row.
 -- Assumes nothing.
 use borrow.Author.Needs.{needs}
-use native.Mathlib.Omega.{arith}
+use Prim.Native.Nat.{_<_, _^_}
+use lib.ListN.{length}
+use denote.Ref.{now}
 use Rattle.opcodes.specs.Text.{asBytes}
 use Rattle.lines.specs.Lines.{markLine}
 use Rattle.lines.proofs.Puts.{join}
@@ -25,7 +27,9 @@ unfolding markLine asBytes
 returns c =
     let ended = c .before .before in
     let named = ended .before .before .before .before .before in
-    join (omega arith) (named .put-mark-name .ensures) (ended .put .ensures)
+    let start = named .before .before .before in
+    let short : length (now (start .args .text)) < 2 ^ 64 = start .good .0 .0 in
+    join short (named .put-mark-name .ensures) (ended .put .ensures)
 
 pub put-mark-line-spec : {M : Type 1} → statement M
 put-mark-line-spec = tie.close (tie.spec put-mark-name-requires slice-aggregate-put put-requires same-length returns)

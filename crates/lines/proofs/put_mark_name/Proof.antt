@@ -1,7 +1,9 @@
 -- The texts in a row.
 -- Assumes nothing.
 use borrow.Author.Needs.{needs}
-use native.Mathlib.Omega.{arith}
+use Prim.Native.Nat.{_<_, _^_}
+use lib.ListN.{length}
+use denote.Ref.{now}
 use Rattle.opcodes.specs.Text.{asBytes}
 use Rattle.lines.specs.Lines.{markName}
 use Rattle.lines.proofs.Puts.{join}
@@ -25,7 +27,9 @@ unfolding markName asBytes
 returns c =
     let numbered = c .before .before in
     let named = numbered .before .before .before .before in
-    join (omega arith) (named .put .ensures) (numbered .put-decimal .ensures)
+    let start = named .before .before .before .before in
+    let short : length (now (start .args .text)) < 2 ^ 64 = start .good .0 .0 in
+    join short (named .put .ensures) (numbered .put-decimal .ensures)
 
 pub put-mark-name-spec : {M : Type 1} → statement M
 put-mark-name-spec = tie.close (tie.spec slice-aggregate-put put-requires put-decimal-requires same-length returns)

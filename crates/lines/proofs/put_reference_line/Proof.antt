@@ -1,7 +1,9 @@
 -- The texts in a row.
 -- Assumes nothing.
 use borrow.Author.Needs.{needs}
-use native.Mathlib.Omega.{arith}
+use Prim.Native.Nat.{_<_, _^_}
+use lib.ListN.{length}
+use denote.Ref.{now}
 use Rattle.opcodes.specs.Text.{asBytes}
 use Rattle.lines.specs.Lines.{referenceLine}
 use Rattle.lines.proofs.Puts.{join}
@@ -33,7 +35,9 @@ returns c =
     let sized = ended .before .before .before .before .before in
     let marked = sized .before .before .before .before in
     let pushed = marked .before .before .before .before in
-    join (omega arith) (join (omega arith) (join (omega arith) (pushed .put-pushed .ensures) (marked .put-marks .ensures)) (sized .put-size .ensures)) (ended .put .ensures)
+    let start = pushed .before .before .before in
+    let short : length (now (start .args .text)) < 2 ^ 64 = start .good .0 .0 in
+    join short (join short (join short (pushed .put-pushed .ensures) (marked .put-marks .ensures)) (sized .put-size .ensures)) (ended .put .ensures)
 
 pub put-reference-line-spec : {M : Type 1} → statement M
 put-reference-line-spec = tie.close (tie.spec put-pushed-requires put-marks-requires put-size-requires slice-aggregate-put put-requires same-length returns)

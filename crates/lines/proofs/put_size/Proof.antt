@@ -2,7 +2,10 @@
 -- Assumes nothing.
 use borrow.Author.Needs.{needs}
 use mathlib.Core.Path.{ap}
+use Prim.Native.Nat.{_<_, _^_}
 use native.Mathlib.Omega.{arith}
+use lib.ListN.{length}
+use denote.Ref.{now}
 use Rattle.opcodes.specs.Text.{asBytes}
 use Rattle.lines.specs.Decimal.{decimal}
 use Rattle.lines.proofs.Puts.{join, put-is, put-none}
@@ -40,8 +43,10 @@ returns-2 c =
     let counted = numbered .before in
     let opened = counted .before .before .before .before in
     let told = opened .before .before .before .before in
+    let start = told .before .before .before in
+    let short : length (now (start .args .text)) < 2 ^ 64 = start .good .0 .0 in
     rw (told .set-size .given .1)
-    (join (omega arith) (opened .put .ensures) (put-is (ap decimal (counted .bytes .ensures .0)) (numbered .put-decimal .ensures)))
+    (join short (opened .put .ensures) (put-is (ap decimal (counted .bytes .ensures .0)) (numbered .put-decimal .ensures)))
 
 pub put-size-spec : {M : Type 1} → statement M
 put-size-spec = tie.close (tie.spec enum-known-set-size enum-told returns slice-aggregate-put put-requires bytes-requires put-decimal-requires same-length returns-2)

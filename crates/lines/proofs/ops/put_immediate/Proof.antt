@@ -1,7 +1,9 @@
 -- The texts in a row, cut or whole.
 -- Assumes nothing.
 use borrow.Author.Needs.{needs}
-use native.Mathlib.Omega.{arith}
+use Prim.Native.Nat.{_<_, _^_}
+use lib.ListN.{length}
+use denote.Ref.{now}
 use Rattle.opcodes.specs.Text.{asBytes}
 use Rattle.lines.proofs.Puts.{join, put-is}
 use Rattle.lines.proofs.Turns.{immediate-cut, immediate-whole}
@@ -37,8 +39,9 @@ returns c =
     let cut = written .before .before in
     let opened = cut .before .before .before in
     let s = opened .before .before .before .before .before in
+    let short : length (now (s .args .text)) < 2 ^ 64 = s .good .0 .0 in
     put-is (immediate-cut _ _ _ _ (s .pre .0) (s .pre .1) (s .pre .2) (cut .if1 .taken))
-    (join (omega arith) (join (omega arith) (opened .put .ensures) (written .put-hex .ensures)) (marked .put2 .ensures))
+    (join short (join short (opened .put .ensures) (written .put-hex .ensures)) (marked .put2 .ensures))
 
 add-put-hex : tie.Need-add-put-hex
 add-put-hex c = search needs
@@ -56,7 +59,8 @@ returns-2 c =
     let whole = written .before .before in
     let opened = whole .before .before .before in
     let s = opened .before .before .before .before .before in
-    put-is (immediate-whole _ _ _ _ (s .pre .0) (s .pre .1) (s .pre .2) (whole .if1 .left)) (join (omega arith) (opened .put .ensures) (written .put-hex2 .ensures))
+    let short : length (now (s .args .text)) < 2 ^ 64 = s .good .0 .0 in
+    put-is (immediate-whole _ _ _ _ (s .pre .0) (s .pre .1) (s .pre .2) (whole .if1 .left)) (join short (opened .put .ensures) (written .put-hex2 .ensures))
 
 pub put-immediate-spec : {M : Type 1} → statement M
 put-immediate-spec = tie.close (tie.spec slice-aggregate-put put-requires sub-if1 put-hex-requires slice-aggregate-put-2 put-requires-2 same-length returns add-put-hex put-hex-requires-2 same-length-2 returns-2)
