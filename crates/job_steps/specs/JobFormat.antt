@@ -50,6 +50,10 @@ steps job = stepsFrom job (stepCount job) (stepsStart job)
 
 -- ---- 15
 
+-- 'Errors: 15 at 0'
+abbrev pub badJob : ℕ
+badJob = 15
+
 -- 'above 32,768 bytes'
 abbrev pub maxJob : ℕ
 maxJob = 32768

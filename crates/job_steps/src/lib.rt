@@ -12,7 +12,7 @@ pub use validate::MAX_JOB;
 use validate::is_job;
 ghost use mathlib.Core.Path.{_≡_};
 ghost use Rattle.records.specs.Store.{storeOf, emptyCounts, wordsPerSection};
-ghost use Rattle.job_steps.specs.JobBuild.{answerOf, jobBuild};
+ghost use Rattle.job_steps.specs.JobBuild.{jobBuiltReply, jobBuild};
 
 // What a job's steps come to: the store's counts, the refusal of the first refused call, or 15, no job.
 pub enum JobBuilt {
@@ -21,12 +21,12 @@ pub enum JobBuilt {
     BadJob,
 }
 
-// Takes the steps of a job in turn, on an empty store over the lent slices. 15 is answered before any call, and no slice is changed; of
-// a refused call the slices are as the call before it left them.
+// Takes the steps of a job in turn, on an empty store over the lent slices. Refusals: 15 no job, before any call, and no slice is
+// changed; then that of the first refused call, and the slices are as the call before it left them.
 pub fn build_job(job: &[u8], bytes: &mut [u8], words: &mut [u32]) -> JobBuilt
-    ensures answer { λ r.
-        ⌜ answerOf r
-        ≡ jobBuild wordsPerSection (now (job .entry)) (storeOf emptyCounts (now (bytes .entry)) (now (words .entry))) .answer ⌝ }
+    ensures reply { λ r.
+        ⌜ jobBuiltReply r
+        ≡ jobBuild wordsPerSection (now (job .entry)) (storeOf emptyCounts (now (bytes .entry)) (now (words .entry))) .reply ⌝ }
     ensures bytes { λ _.
         ⌜ now (bytes .exit)
         ≡ jobBuild wordsPerSection (now (job .entry)) (storeOf emptyCounts (now (bytes .entry)) (now (words .entry))) .store .bytes ⌝ }

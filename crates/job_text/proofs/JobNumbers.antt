@@ -29,9 +29,9 @@ use Rattle.layout.specs.Answer.{LayoutRefusal, shortTable, unplaced, placedApar
 use Rattle.layout.specs.Answer.{Answer, laidOut, noLayout, answer, answerReply, answerTable}
 use Rattle.settling.proofs.SettlingLaw.{sound-settles}
 use Rattle.assembler.specs.Assemble.{Outcome, isFull, writing, assembly}
-use Rattle.job_steps.specs.JobFormat.{isJob}
+use Rattle.job_steps.specs.JobFormat.{isJob, badJob}
 use Rattle.job_steps.specs.JobCalls.{jobCalls, builtBy}
-use Rattle.jobs.specs.JobOutcome.{LentSlices, JobResult, emptyStore, badJob, assembledFrom, jobResult}
+use Rattle.jobs.specs.JobOutcome.{LentSlices, JobResult, emptyStore, assembledFrom, jobResult}
 use Rattle.job_text.specs.JobAnswers.{FifteenIff, HasSections, EarlyRefusal, LateRefusal, NumbersOf}
 use Rattle.job_steps.proofs.JobCalls.{Plain, EveryPlain, job-plain, length-calls}
 use Rattle.job_steps.proofs.JobLoops.{built-next, job-facts}

@@ -10,8 +10,8 @@ use lib.ListN.{length}
 use Rattle.units.specs.Replies.{largeMark, bytesFull, sectionsFull, shortTable, resultFull}
 use Rattle.units.specs.Reply.{refused}
 use Rattle.records.specs.Store.{wordsPerSection}
-use Rattle.job_steps.specs.JobFormat.{stepCount, isJob}
-use Rattle.jobs.specs.JobOutcome.{LentSlices, badJob, jobResult, jobText}
+use Rattle.job_steps.specs.JobFormat.{stepCount, isJob, badJob}
+use Rattle.jobs.specs.JobOutcome.{LentSlices, jobResult, jobText}
 
 -- a job is refused with a number, a section and passes
 abbrev pub JobRefused : List ℕ → LentSlices → ℕ → ℕ → ℕ → Type 0

@@ -1,31 +1,20 @@
 -- What a job comes to, by its outcomes: 15, a refused call, or assembly. Assumes nothing.
 use Prim.Native.Nat.{ℕ}
-use mathlib.Core.Path.{_≡_, sym, ap, ap₂, _∙_}
-use mathlib.Core.Bool.{true, false}
-use mathlib.Core.List.{List, [], _∷_}
+use mathlib.Core.Path.{_≡_, refl, sym, ap, ap₂, _∙_}
+use mathlib.Core.Bool.{Bool, true, false}
+use mathlib.Core.List.{List}
 use lib.ListN.{length}
-use Rattle.units.specs.Reply.{Reply, accepted, refused, refusalReply}
-use Rattle.units.specs.declared.reply.Refusal.{Refusal}
+use Rattle.units.specs.Reply.{Reply, accepted, refused}
 use Rattle.records.specs.declared.Assembler.{Assembler}
 use Rattle.records.specs.Store.{Store, storeOf, countsOf, wordsPerSection}
-use Rattle.calls.specs.Calls.{BuiltReply, Push, pushAfter, allReply}
-use Rattle.calls.proofs.Refusals.{all-first}
+use Rattle.calls.specs.Calls.{BuiltReply, allReply}
 use Rattle.layout.specs.Answer.{Laid}
 use Rattle.assembler.specs.Assemble.{assembly}
-use Rattle.job_steps.specs.JobFormat.{isJob}
+use Rattle.job_steps.specs.JobFormat.{isJob, badJob}
 use Rattle.job_steps.specs.JobCalls.{jobCalls, builtBy}
-use Rattle.jobs.specs.JobOutcome.{LentSlices, JobResult, lentSlices, emptyStore, badJob, assembledFrom, jobResult}
-use Rattle.job_steps.specs.JobBuild.{BuildAnswer, noJob, called}
-use Rattle.job_steps.proofs.JobLoops.{built-next}
-use Rattle.job_steps.proofs.JobBuilds.{Builds, none-told, called-told}
-
--- where every call is accepted, the counts answered are those of what was built
-pub built-counts : (ps : List Push) (st : Store) (a : Assembler) → allReply wordsPerSection ps st ≡ accepted a → a ≡ countsOf (builtBy wordsPerSection ps st)
-unfolding allReply builtBy
-built-counts [] st a e = cc
-built-counts (p ∷ ps) st a e =
-    let first = all-first wordsPerSection p ps st a e in
-    built-counts ps (pushAfter wordsPerSection p st) a (first .2) ∙ ap countsOf (sym (built-next p ps st (first .0) (first .1)))
+use Rattle.job_steps.specs.JobBuild.{JobBuild, jobBuild}
+use Rattle.job_steps.proofs.JobBuilds.{Builds, build-counts}
+use Rattle.jobs.specs.JobOutcome.{LentSlices, JobResult, lentSlices, emptyStore, assembledFrom, jobResult}
 
 -- ---- by cases
 
@@ -62,40 +51,45 @@ module _ (job bytes words table result : List ℕ) where
   says m e = (ap (λ (x : JobResult). x .reply) e, ap (λ (x : JobResult). x .slices) e)
 
   -- what the steps come to
-  abbrev pub Steps : BuildAnswer → List ℕ → List ℕ → Type 0
-  Steps answer bytes′ words′ = Builds wordsPerSection job (emptyStore lent) answer bytes′ words′
+  abbrev steps : JobBuild
+  steps = jobBuild wordsPerSection job (emptyStore lent)
 
-  -- 15: the slices as they were
-  pub made-bad : (bytes′ words′ : List ℕ) → Steps noJob bytes′ words′ → Says (refused badJob 0 0) (lentSlices bytes′ words′ table result)
-  made-bad bytes′ words′ h =
-      let none = none-told wordsPerSection job (emptyStore lent) h in
-      let m = says (record { reply = refused badJob 0 0; slices = lent }) (sym (made-of-none job lent (none .0))) in
-      (m .0, ap₂ (λ (x y : List ℕ). lentSlices x y table result) (none .1 .0) (none .1 .1) ∙ m .1)
+  abbrev pub Steps : BuiltReply → List ℕ → List ℕ → Type 0
+  Steps reply bytes′ words′ = Builds wordsPerSection job (emptyStore lent) reply bytes′ words′
 
-  -- a refused call: neither table nor result is touched
-  pub made-refused : (refusal : Refusal) (bytes′ words′ : List ℕ) → Steps (called (refusalReply refusal)) bytes′ words′
-      → Says (refusalReply refusal) (lentSlices bytes′ words′ table result)
-  made-refused refusal bytes′ words′ h =
-      let some = called-told wordsPerSection job (emptyStore lent) h in
-      let m = says (assembledFrom wordsPerSection lent (refusalReply refusal) (callsBuild job lent)) (sym (made-of-calls job lent (some .0) (refusalReply refusal) (sym (some .1 .0)))) in
-      (m .0, ap₂ (λ (x y : List ℕ). lentSlices x y table result) (some .1 .1 .0) (some .1 .1 .1) ∙ m .1)
+  -- the job is that, assembled: of what is no job nothing is, as of a refused call
+  made-of-steps : assembledFrom wordsPerSection lent (steps .reply) (steps .store) ≡ jobResult wordsPerSection job lent
+  unfolding jobBuild jobResult
+  made-of-steps = go (isJob job) refl
+    where
+      go : (b : Bool) → isJob job ≡ b → assembledFrom wordsPerSection lent (steps .reply) (steps .store) ≡ jobResult wordsPerSection job lent
+      go true e = rw e refl
+      go false e = rw e refl
+
+  made-from : (r : BuiltReply) → r ≡ steps .reply → Says (assembledFrom wordsPerSection lent r (steps .store) .reply) (assembledFrom wordsPerSection lent r (steps .store) .slices)
+  made-from r e =
+      says (assembledFrom wordsPerSection lent r (steps .store)) (ap (λ (x : BuiltReply). assembledFrom wordsPerSection lent x (steps .store)) e ∙ made-of-steps)
+
+  -- 15 or a refused call: neither table nor result is touched
+  pub made-refused : (n i k : ℕ) (bytes′ words′ : List ℕ) → Steps (refused n i k) bytes′ words′ → Says (refused n i k) (lentSlices bytes′ words′ table result)
+  made-refused n i k bytes′ words′ h =
+      let m = made-from (refused n i k) (h .0) in
+      (m .0, ap₂ (λ (x y : List ℕ). lentSlices x y table result) (h .1 .0) (h .1 .1) ∙ m .1)
 
   -- else assembly
-  pub made-assembled : (a : Assembler) (bytes′ words′ table′ result′ : List ℕ) (reply : Reply Laid) → Steps (called (accepted a)) bytes′ words′
+  pub made-assembled : (a : Assembler) (bytes′ words′ table′ result′ : List ℕ) (reply : Reply Laid) → Steps (accepted a) bytes′ words′
       → reply ≡ assembly wordsPerSection (storeOf a bytes′ words′) (length table) result 0 .reply
       → table′ ≡ assembly wordsPerSection (storeOf a bytes′ words′) (length table) result 0 .table
       → result′ ≡ assembly wordsPerSection (storeOf a bytes′ words′) (length table) result 0 .result
       → Says reply (lentSlices bytes′ words′ table′ result′)
   made-assembled a bytes′ words′ table′ result′ reply h p q r =
-      let some = called-told wordsPerSection job (emptyStore lent) h in
-      let e = some .1 .0 in
-      let b = some .1 .1 .0 in
-      let w = some .1 .1 .1 in
-      let st = callsBuild job lent in
+      let b = h .1 .0 in
+      let w = h .1 .1 in
+      let st = steps .store in
       let counted : storeOf a bytes′ words′ ≡ storeOf (countsOf st) bytes′ words′ =
-      ap (λ (x : Assembler). storeOf x bytes′ words′) (built-counts (jobCalls job) (emptyStore lent) a (sym e)) in
+      ap (λ (x : Assembler). storeOf x bytes′ words′) (build-counts job (emptyStore lent) a (sym (h .0))) in
       let same : storeOf a bytes′ words′ ≡ st = counted ∙ ap₂ (λ (x y : List ℕ). storeOf (countsOf st) x y) b w in
-      let m = says (assembledFrom wordsPerSection lent (accepted a) st) (sym (made-of-calls job lent (some .0) (accepted a) (sym e))) in (
+      let m = made-from (accepted a) (h .0) in (
         p ∙ ap (λ (s : Store). assembly wordsPerSection s (length table) result 0 .reply) same ∙ m .0,
         ap₂ (λ (x y : List ℕ). lentSlices x y table′ result′) b w
             ∙ ap₂ (λ (x y : List ℕ). lentSlices (st .bytes) (st .words) x y)

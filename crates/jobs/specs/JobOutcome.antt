@@ -15,13 +15,9 @@ use Rattle.jobs.specs.declared.JobReply.{JobReply}
 use Rattle.jobs.specs.declared.JobReply.the-variants.{Code, Refused, BadJob}
 use Rattle.jobs.specs.declared.JobRun.{JobRun}
 use Rattle.jobs.specs.declared.JobRun.the-variants.{Ran, ShortText}
-use Rattle.job_steps.specs.JobFormat.{isJob}
+use Rattle.job_steps.specs.JobFormat.{isJob, badJob}
 use Rattle.job_steps.specs.JobCalls.{jobCalls, builtBy}
 use Rattle.jobs.specs.JobText.{textFor, longestText}
-
--- 'Errors: 15 at 0'
-abbrev pub badJob : ℕ
-badJob = 15
 
 -- what the function answers, as a reply
 abbrev pub jobReply : JobReply → Reply Laid

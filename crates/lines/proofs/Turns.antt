@@ -1,5 +1,5 @@
--- Laws of the loops that put text, one for each thing a loop's turn has to show: what is left after it, and that nothing is left at the
--- end. Assumes nothing.
+-- Laws of what the functions put: of each loop's turn, what is left after it, and at the end that nothing is; of a number, a data line and
+-- an immediate, that their parts are the whole; of a span, that it may be cut to the bytes that there are. Assumes nothing.
 use Prim.Native.Nat.{ℕ, suc, _+_, _*_, _-_, _/_, _%_, _≤_, _<_, _^_, min}
 use native.Mathlib.Omega.{arith}
 use native.Mathlib.Numerals.{add-one}
@@ -21,7 +21,7 @@ use Rattle.lines.proofs.Puts.{Left, left-step, left-done, put-is, put-p
 use Rattle.lines.proofs.Digits.{decimal-small, decimal-more}
 
 -- what is left, written otherwise
-pub left-is : {t : List ℕ} {at : ℕ} {whole now : List ℕ} {here : ℕ} {rest other : List ℕ} → rest ≡ other → Left t at whole now here rest → Left t at whole now here other
+left-is : {t : List ℕ} {at : ℕ} {whole now : List ℕ} {here : ℕ} {rest other : List ℕ} → rest ≡ other → Left t at whole now here rest → Left t at whole now here other
 left-is {t} {at} {whole} {now} {here} e l = subst (λ (x : List ℕ). Left t at whole now here x) e l
 
 -- ---- a byte string, from its byte i on
@@ -86,7 +86,7 @@ decimal-then v short h p q = put-is (sym (decimal-more v h)) (join short p q)
 -- ---- a span cut to the bytes that there are, as the code has its ends
 
 -- cut at the end
-pub end-within : (bs : List ℕ) (s e : ℕ) → slice s (min e (length bs)) bs ≡ slice s e bs
+end-within : (bs : List ℕ) (s e : ℕ) → slice s (min e (length bs)) bs ≡ slice s e bs
 end-within bs s e = ap (drop s) (go (ltb e (length bs)) refl)
   where
     n : ℕ
@@ -101,7 +101,7 @@ end-within bs s e = ap (drop s) (go (ltb e (length bs)) refl)
         take-all n bs (omega arith) ∙ sym (take-all e bs past)
 
 -- and at the start
-pub start-within : (bs : List ℕ) (s e : ℕ) → e ≤ length bs → slice (min s e) e bs ≡ slice s e bs
+start-within : (bs : List ℕ) (s e : ℕ) → e ≤ length bs → slice (min s e) e bs ≡ slice s e bs
 start-within bs s e h = go (ltb s e) refl
   where
     n : ℕ
@@ -143,7 +143,7 @@ module _ (bs : List ℕ) (n : ℕ) (counted : length bs ≡ n) where
   data-put p = put-is data-is p
 
 -- the first n elements of a part
-pub take-slice : (bs : List ℕ) (n s e : ℕ) → s + n ≤ e → e ≤ length bs → take n (slice s e bs) ≡ slice s (s + n) bs
+take-slice : (bs : List ℕ) (n s e : ℕ) → s + n ≤ e → e ≤ length bs → take n (slice s e bs) ≡ slice s (s + n) bs
 take-slice bs n s e h k =
     let l : List ℕ = take e bs in
     let a : length (take s l) ≡ s = length-take-le s l (rw (length-take-le e bs k) (omega arith)) in

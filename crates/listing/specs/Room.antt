@@ -1,4 +1,4 @@
--- Private to the functions of this crate: what those that add text ask. No public contract cites it. Assumes nothing.
+-- Private to the functions of this crate: what those that add text ask and promise. No public contract cites it. Assumes nothing.
 use Prim.Native.Nat.{ℕ, _+_, _<_, _^_}
 use mathlib.Core.List.{List}
 use lib.ListN.{length}

@@ -2,8 +2,8 @@
 -- Assumes nothing.
 use borrow.Author.Needs.{needs}
 use mathlib.Core.Path.{sym, ap, _∙_}
-use Rattle.job_steps.specs.JobBuild.{answerOf}
-use Rattle.jobs.proofs.JobMade.{made-bad, made-refused, made-assembled}
+use Rattle.job_steps.specs.JobBuild.{jobBuiltReply}
+use Rattle.jobs.proofs.JobMade.{made-refused, made-assembled}
 use Rattle.jobs.proofs.make.Statement.{statement}
 use Rattle.jobs.proofs.make.Tie as tie
 
@@ -35,7 +35,7 @@ returns : tie.Need-returns
 returns c =
     let built = c .before .before .before .before .before .before in
     let e = built .build-job .ensures in
-    made-bad _ _ _ _ _ _ _ (sym (ap answerOf (c .enum-told .given .1)) ∙ e .0, e .1)
+    made-refused _ _ _ _ _ _ _ _ _ _ (sym (ap jobBuiltReply (c .enum-told .given .1)) ∙ e .0, e .1)
 
 same-length-3 : tie.Need-same-length-3
 same-length-3 c = search needs
@@ -48,7 +48,7 @@ returns-2 c =
     let told = c .before in
     let built = told .before .before .before .before .before .before in
     let e = built .build-job .ensures in
-    made-refused _ _ _ _ _ (told .built .given .0 .0) _ _ (sym (ap answerOf (told .built .given .1)) ∙ e .0, e .1)
+    made-refused _ _ _ _ _ _ _ _ _ _ (sym (ap jobBuiltReply (told .built .given .1)) ∙ e .0, e .1)
 
 same-length-5 : tie.Need-same-length-5
 same-length-5 c = search needs
@@ -69,7 +69,7 @@ returns-3 c =
     let built = told .before .before .before .before .before .before in
     let e = built .build-job .ensures in
     let done = called .assemble .ensures in
-    made-assembled _ _ _ _ _ (told .built2 .given .0 .0) _ _ _ _ _ (sym (ap answerOf (told .built2 .given .1)) ∙ e .0, e .1)
+    made-assembled _ _ _ _ _ (told .built2 .given .0 .0) _ _ _ _ _ (sym (ap jobBuiltReply (told .built2 .given .1)) ∙ e .0, e .1)
     (c .reply-of .ensures ∙ done .0) (done .1 .0) (done .1 .1 .0)
 
 pub make-spec : {M : Type 1} → statement M

@@ -6,7 +6,6 @@ use denote.Ref.{now}
 use Rattle.job_steps.proofs.JobBytes.{four-bytes}
 use Rattle.job_steps.proofs.read.number_at.Statement.{statement}
 use Rattle.job_steps.proofs.read.number_at.Tie as tie
-use Rattle.job_steps.proofs.read.pair_at.Reads as pair-at-reads
 
 pair-at-requires : tie.Need-pair-at-requires
 pair-at-requires c κs = search needs

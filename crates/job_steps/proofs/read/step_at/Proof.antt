@@ -9,7 +9,6 @@ use denote.Ref.{now}
 use Rattle.job_steps.specs.JobFormat.{numberAt}
 use Rattle.job_steps.proofs.read.step_at.Statement.{statement}
 use Rattle.job_steps.proofs.read.step_at.Tie as tie
-use Rattle.job_steps.proofs.read.number_at.Reads as number-at-reads
 
 shared-slice-read-t4 : tie.Need-shared-slice-read-t4
 shared-slice-read-t4 c = search needs
