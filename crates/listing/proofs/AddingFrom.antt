@@ -41,6 +41,8 @@ use denote.Triple.Statement.{Contract, Triple}
 use denote.Triple.Call.{calls-at}
 use denote.Triple.Clauses.{Ended, Clauses, closing, ensured, lasts}
 use denote.Triple.Walked.{says, needs, Stays, stay-none, stay-none-slice, walkOf, goes-none, goes-none-slice, AllGo, Walks, ends-at, walked, walk-meets}
+use Rattle.units.specs.declared.BytesSpan.{BytesSpan}
+use Rattle.undamaged.specs.Section.{spanBytes}
 use Rattle.lines.specs.Put.{Put}
 use Rattle.listing.specs.Room.{Room as RoomFor}
 use Rattle.listing.specs.Sink.{added}
@@ -78,6 +80,13 @@ adder callee ty = record {
       seq (assign (place 9 []) (aggregate (copy (place 8 []) ∷ copy (place 1 (field 0 ∷ field 1 ∷ [])) ∷ []))) (
       seq (assign (place 0 []) (aggregate (copy (place 9 []) ∷ copy (place 5 []) ∷ []))) return))))));
 }
+
+-- the text of a span, by what its bytes are listed as; and what an adder of it asks, room for it alone
+abbrev pub spanText : (List ℕ → List ℕ) → List ℕ → BytesSpan → List ℕ
+spanText line bs s = line (spanBytes bs s)
+
+abbrev pub spanRoom : (List ℕ → List ℕ) → ℕ → List ℕ → BytesSpan → Type 0
+spanRoom line at bs s = RoomFor at (spanText line bs s)
 
 module _ (Y : Value) (Asked : ℕ → List ℕ → Y .D .D → Type 0) (txt : List ℕ → Y .D .D → List ℕ) where
   abbrev D : Declared

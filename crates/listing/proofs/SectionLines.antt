@@ -17,9 +17,16 @@ use Rattle.undamaged.proofs.Reading.{reads, mark-read, ops-read, data-read}
 use Rattle.undamaged.proofs.Sections.{can-read}
 use Rattle.lines.specs.Lines.{markLine, opsLines, dataLine, referenceLine}
 use Rattle.listing.specs.Listing.{sectionText}
-use Rattle.listing.specs.Room.{wordsText}
+use Rattle.listing.specs.Room.{Room, wordsText}
 
-module _ (bs : List ℕ) (x : StoredSection) (here : ReadIn (length bs) (readSection x)) where
+-- what the words of a section ask of the bytes; and of a place too, where its text is added
+abbrev pub Needs : List ℕ → StoredSection → Type 0
+Needs bs x = ReadIn (length bs) (readSection x)
+
+abbrev pub Asked : ℕ → List ℕ → StoredSection → Type 0
+Asked at bs x = Needs bs x × Room at (wordsText bs x)
+
+module _ (bs : List ℕ) (x : StoredSection) (here : Needs bs x) where
   pub readable : unreadable (readSection x) ≡ false
   readable = can-read (length bs) (readSection x) here
 

@@ -56,20 +56,19 @@ use Rattle.records.specs.declared.record.SectionRead.the-variants.{Read}
 use Rattle.records.specs.declared.record.StoredSection.{StoredSection}
 use Rattle.records.proofs.record.StoredSection as S
 use Rattle.records.proofs.record.StoredSection.Laws as S′
-use Rattle.undamaged.specs.Section.{spanBytes, ReadIn}
 use Rattle.lines.specs.Lines.{markLine, opsLines, dataLine, referenceLine}
 use Rattle.listing.specs.Room.{wordsText, Room}
 use Rattle.listing.specs.Sink.{added}
 use Rattle.listing.specs.declared.sink.TextSink.{TextSink}
 use Rattle.listing.proofs.Added.{room-is}
-use Rattle.listing.proofs.SectionLines.{readable, text-mark, text-ops, text-data, text-reference}
+use Rattle.listing.proofs.SectionLines.{Needs, Asked, readable, text-mark, text-ops, text-data, text-reference}
 use Rattle.listing.proofs.sink.TextSink as T
 use Rattle.listing.proofs.sink.TextSink.Laws as T′
 use Rattle.listing.proofs.Sinks.{Sink, sinkVal, sink-typed, sink-named, frees-all}
 use Rattle.listing.proofs.Values.{mark-value, span-value, reference-value, words-value}
 use Rattle.listing.proofs.Adding as A₁
 use Rattle.listing.proofs.AddingFrom as A₂
-use Rattle.listing.proofs.AddingFrom.{Bytes, shared}
+use Rattle.listing.proofs.AddingFrom.{Bytes, shared, spanText, spanRoom}
 use Rattle.listing.proofs.sink.add_mark_line.Symbol as mark-def
 use Rattle.listing.proofs.sink.add_mark_line.Met as mark-thm
 use Rattle.listing.proofs.sink.add_ops_lines.Symbol as ops-def
@@ -86,37 +85,19 @@ use Rattle.listing.proofs.sections.add_section.Key.{name}
 use Rattle.listing.proofs.sections.add_section.Statement.{statement}
 use Rattle.listing.proofs.sections.add_section.Code as code
 
--- what the words ask of the bytes, what is asked of a place, and the lines' texts
-abbrev Needs : List ℕ → StoredSection → Type 0
-Needs bs x = ReadIn (length bs) (readSection x)
-
-abbrev Asked : ℕ → List ℕ → StoredSection → Type 0
-Asked at bs x = Needs bs x × Room at (wordsText bs x)
-
+-- the text of a mark
 abbrev markText : MarkId → List ℕ
 markText m = markLine (m .0)
-
-abbrev opsText : List ℕ → BytesSpan → List ℕ
-opsText bs s = opsLines (spanBytes bs s)
-
-abbrev dataText : List ℕ → BytesSpan → List ℕ
-dataText bs s = dataLine (spanBytes bs s)
-
-abbrev opsRoom : ℕ → List ℕ → BytesSpan → Type 0
-opsRoom at bs s = Room at (opsText bs s)
-
-abbrev dataRoom : ℕ → List ℕ → BytesSpan → Type 0
-dataRoom at bs s = Room at (dataText bs s)
 
 -- the contracts that the proof cites
 abbrev MarkC : {M : Type 1} (𝓤 : URA M) (H : Heap 𝓤) (A : Atoms 𝓤) → Contract 𝓤
 MarkC = A₁.AddC mark-value markText
 
 abbrev OpsC : {M : Type 1} (𝓤 : URA M) (H : Heap 𝓤) (A : Atoms 𝓤) → Contract 𝓤
-OpsC = A₂.AddC span-value opsRoom opsText
+OpsC = A₂.AddC span-value (spanRoom opsLines) (spanText opsLines)
 
 abbrev DataC : {M : Type 1} (𝓤 : URA M) (H : Heap 𝓤) (A : Atoms 𝓤) → Contract 𝓤
-DataC = A₂.AddC span-value dataRoom dataText
+DataC = A₂.AddC span-value (spanRoom dataLine) (spanText dataLine)
 
 abbrev ReferenceC : {M : Type 1} (𝓤 : URA M) (H : Heap 𝓤) (A : Atoms 𝓤) → Contract 𝓤
 ReferenceC = A₁.AddC reference-value referenceLine
@@ -282,12 +263,12 @@ module _ {M : Type 1} (𝓤 : URA M) (H : Heap 𝓤) (A : Atoms 𝓤) (W : Given
           (from ! (stop !)) (init ! 7 refl (tt, ((record { fits = fits .1 .0 }, tt), ((record { fits = fits .1 .1 }, tt), tt)))) $
           -- the bytes are had twice: [the bytes; the bytes; the sink; the tokens; _16; …]
           move ! (2 ∷ []) $ use1 W (‵ OwnB ⊛ ‵ OwnB) (shr-slice-copy 𝓤 H A W (named 1) κ′ u8 .twice xb (sb ∷ [])) $ split ! $ move ! (3 ∷ 2 ∷ 0 ∷ []) $ group ! 3 $
-          use1 W (raw (OpsC 𝓤 H A .pre (A₂.to-add span-value opsRoom opsText 𝓤 H A W κ κ′ q q′ h w₀ xb sp)))
-          (A₂.add-pre span-value opsRoom opsText 𝓤 H A W κ κ′ q q′ h w₀ xb sp sp-is (room-is _ (text-ops (now xb) v ok k) room)) $
-          calls-at-last ! fm (OpsC 𝓤 H A) known-ops (A₂.to-add span-value opsRoom opsText 𝓤 H A W κ κ′ q q′ h w₀ xb sp)
+          use1 W (raw (OpsC 𝓤 H A .pre (A₂.to-add span-value (spanRoom opsLines) (spanText opsLines) 𝓤 H A W κ κ′ q q′ h w₀ xb sp)))
+          (A₂.add-pre span-value (spanRoom opsLines) (spanText opsLines) 𝓤 H A W κ κ′ q q′ h w₀ xb sp sp-is (room-is _ (text-ops (now xb) v ok k) room)) $
+          calls-at-last ! fm (OpsC 𝓤 H A) known-ops (A₂.to-add span-value (spanRoom opsLines) (spanText opsLines) 𝓤 H A W κ κ′ q q′ h w₀ xb sp)
           (and-then ! (load ! (from ! (stop !)) (look ! 9 refl)) (and-then ! (load ! (from ! (stop !)) (look ! 4 refl)) (and-then ! (load ! (from ! (stop !)) (look ! 6 refl)) (no-more !)))) (λ w.
-          use1 W (later (some (λ (g : TextSink). given (g ≡ added h (opsText (now xb) sp)) (Tokens ⊛ ‵ (Sink κ .own g (w ∷ []))))))
-          (A₂.add-post span-value opsRoom opsText 𝓤 H A W κ κ′ q q′ h w₀ xb sp w) $ await ! tt $ pick ! (λ g. learn ! (λ e. split ! $
+          use1 W (later (some (λ (g : TextSink). given (g ≡ added h (spanText opsLines (now xb) sp)) (Tokens ⊛ ‵ (Sink κ .own g (w ∷ []))))))
+          (A₂.add-post span-value (spanRoom opsLines) (spanText opsLines) 𝓤 H A W κ κ′ q q′ h w₀ xb sp w) $ await ! tt $ pick ! (λ g. learn ! (λ e. split ! $
           -- [the tokens; the sink; the bytes; _16; …]
           move ! (1 ∷ []) $ peeks ! (Sink κ) (Is (Sink κ)) (shows 𝓤 H A (Sink κ)) g (w ∷ []) (λ is.
           land-last ! (from ! (stop !)) (init ! 3 refl (sink-typed κ g w is)) $ forget ! 10 refl $ forget ! 9 refl $ forget ! 8 refl $ forget ! 7 refl $
@@ -310,12 +291,12 @@ module _ {M : Type 1} (𝓤 : URA M) (H : Heap 𝓤) (A : Atoms 𝓤) (W : Given
           (from ! (stop !)) (init ! 7 refl (tt, ((record { fits = fits .1 .0 }, tt), ((record { fits = fits .1 .1 }, tt), tt)))) $
           -- the bytes are had twice: [the bytes; the bytes; the sink; the tokens; _16; …]
           move ! (2 ∷ []) $ use1 W (‵ OwnB ⊛ ‵ OwnB) (shr-slice-copy 𝓤 H A W (named 1) κ′ u8 .twice xb (sb ∷ [])) $ split ! $ move ! (3 ∷ 2 ∷ 0 ∷ []) $ group ! 3 $
-          use1 W (raw (DataC 𝓤 H A .pre (A₂.to-add span-value dataRoom dataText 𝓤 H A W κ κ′ q q′ h w₀ xb sp)))
-          (A₂.add-pre span-value dataRoom dataText 𝓤 H A W κ κ′ q q′ h w₀ xb sp sp-is (room-is _ (text-data (now xb) v ok k) room)) $
-          calls-at-last ! fm (DataC 𝓤 H A) known-data (A₂.to-add span-value dataRoom dataText 𝓤 H A W κ κ′ q q′ h w₀ xb sp)
+          use1 W (raw (DataC 𝓤 H A .pre (A₂.to-add span-value (spanRoom dataLine) (spanText dataLine) 𝓤 H A W κ κ′ q q′ h w₀ xb sp)))
+          (A₂.add-pre span-value (spanRoom dataLine) (spanText dataLine) 𝓤 H A W κ κ′ q q′ h w₀ xb sp sp-is (room-is _ (text-data (now xb) v ok k) room)) $
+          calls-at-last ! fm (DataC 𝓤 H A) known-data (A₂.to-add span-value (spanRoom dataLine) (spanText dataLine) 𝓤 H A W κ κ′ q q′ h w₀ xb sp)
           (and-then ! (load ! (from ! (stop !)) (look ! 9 refl)) (and-then ! (load ! (from ! (stop !)) (look ! 4 refl)) (and-then ! (load ! (from ! (stop !)) (look ! 6 refl)) (no-more !)))) (λ w.
-          use1 W (later (some (λ (g : TextSink). given (g ≡ added h (dataText (now xb) sp)) (Tokens ⊛ ‵ (Sink κ .own g (w ∷ []))))))
-          (A₂.add-post span-value dataRoom dataText 𝓤 H A W κ κ′ q q′ h w₀ xb sp w) $ await ! tt $ pick ! (λ g. learn ! (λ e. split ! $
+          use1 W (later (some (λ (g : TextSink). given (g ≡ added h (spanText dataLine (now xb) sp)) (Tokens ⊛ ‵ (Sink κ .own g (w ∷ []))))))
+          (A₂.add-post span-value (spanRoom dataLine) (spanText dataLine) 𝓤 H A W κ κ′ q q′ h w₀ xb sp w) $ await ! tt $ pick ! (λ g. learn ! (λ e. split ! $
           -- [the tokens; the sink; the bytes; _16; …]
           move ! (1 ∷ []) $ peeks ! (Sink κ) (Is (Sink κ)) (shows 𝓤 H A (Sink κ)) g (w ∷ []) (λ is.
           land-last ! (from ! (stop !)) (init ! 3 refl (sink-typed κ g w is)) $ forget ! 10 refl $ forget ! 9 refl $ forget ! 8 refl $ forget ! 7 refl $

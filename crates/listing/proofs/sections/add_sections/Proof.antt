@@ -46,14 +46,12 @@ use denote.Triple.Call.{calls-at}
 use denote.Triple.Clauses.{ensured, lasts}
 use denote.Triple.Table.{entered, cited}
 use denote.Triple.Walked.{says, needs, Stays, stay-none, stay-none-slice, walkOf, goes-none, goes-none-slice, Walks, ends-at, walked, walk-meets}
-use Rattle.records.specs.Record.{readSection}
 use Rattle.records.specs.Store.{Store, wordsPerSection, wordsAt}
 use Rattle.records.specs.declared.record.StoredSection.{StoredSection}
 use Rattle.records.proofs.record.StoredSection as S
 use Rattle.records.proofs.record.StoredSection.Laws as S′
-use Rattle.undamaged.specs.Section.{ReadIn}
 use Rattle.undamaged.proofs.Soundness.{undamaged-iff}
-use Rattle.listing.specs.Room.{Room, wordsText, storeText, storeWith, Listable}
+use Rattle.listing.specs.Room.{wordsText, storeText, storeWith, Listable}
 use Rattle.listing.specs.Sink.{added}
 use Rattle.listing.specs.declared.sink.TextSink.{TextSink}
 use Rattle.listing.proofs.Every.{rest, rest-start, every-turn, every-room, every-done, words-in}
@@ -62,6 +60,7 @@ use Rattle.listing.proofs.sink.TextSink.Laws as T′
 use Rattle.listing.proofs.Held.{sink-spent, sink-spent-goes}
 use Rattle.listing.proofs.Sinks.{Sink, Text, sinkVal, had, sink-typed, sink-named, sink-left, frees-all}
 use Rattle.listing.proofs.Values.{words-value}
+use Rattle.listing.proofs.SectionLines.{Asked}
 use Rattle.listing.proofs.AddingFrom as A₂
 use Rattle.listing.proofs.AddingFrom.{Bytes, shared}
 use Rattle.listing.proofs.sections.section_words as section-words
@@ -87,9 +86,6 @@ stayed = (
 )
 
 -- ---- the contracts that the proof cites
-abbrev Asked : ℕ → List ℕ → StoredSection → Type 0
-Asked at bs x = ReadIn (length bs) (readSection x) × Room at (wordsText bs x)
-
 abbrev SectionC : {M : Type 1} (𝓤 : URA M) (H : Heap 𝓤) (A : Atoms 𝓤) → Contract 𝓤
 SectionC = A₂.AddC words-value Asked wordsText
 
