@@ -296,7 +296,9 @@ fn main() {
     building("`push_exchange`", vec![Call::Exchange(3, 5); many]);
     building("`push_minimal_u32`", (0..many).map(|_| Call::U32(r.below(70000))).collect());
     building("`push_minimal_u64`", (0..many).map(|_| Call::U64(r.below(1 << 31) as u64 * 12345)).collect());
-    building("`push_minimal_u256`", (0..many).map(|i| Call::U256([i as u64, 2, 3, i as u64])).collect());
+    for zeros in [0, 12, 31] {
+        building(&format!("`push_minimal_u256`, {zeros} leading zeros"), (0..many).map(|_| Call::U256(calls::word(zeros, &mut r))).collect());
+    }
     building("`push_data`, 32 bytes", vec![Call::Data(32); many]);
     building("`push_mark`", (0..many as u32).map(Call::Mark).collect());
     let marks = (0..many as u32).map(Call::Mark);

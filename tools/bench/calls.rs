@@ -45,6 +45,16 @@ const OPS: [u8; 16] = [
     0x01, 0x02, 0x03, 0x10, 0x14, 0x15, 0x16, 0x1b, 0x50, 0x51, 0x52, 0x54, 0x55, 0x56, 0x57, 0x5b,
 ];
 
+/// A word, lowest limb first, with so many leading zero bytes; the byte after them isn't 0, the others are any.
+pub fn word(zeros: usize, r: &mut Random) -> [u64; 4] {
+    let mut bytes = [0u8; 32];
+    for byte in &mut bytes[zeros..] {
+        *byte = r.below(256) as u8;
+    }
+    bytes[zeros] |= 1;
+    std::array::from_fn(|i| u64::from_be_bytes(bytes[24 - 8 * i..32 - 8 * i].try_into().expect("eight bytes")))
+}
+
 /// One of the calls between two jumps: of 20, 8 op bytes, 3 DUP, 3 SWAP, 3 small numbers, and one
 /// each of a u64, a u256 and an exchange.
 fn straight(r: &mut Random) -> Call {

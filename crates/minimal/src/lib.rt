@@ -16,10 +16,16 @@ ghost use Rattle.records.specs.Sections.{ops};
 ghost use Rattle.calls.specs.Calls.{minimalPush, pushMinimalU256, pushMinimalU64, pushMinimalU32, addReply, addAfter};
 ghost use Rattle.calls.specs.Calls.{pushReply, pushAfter};
 ghost use Rattle.numbers.specs.Numbers.{storeIn, builtNumber};
-ghost use Rattle.minimal.specs.Zeros.{LeadingZeros};
+ghost use Rattle.minimal.specs.Zeros.{LeadingZeros, looked};
 
 // The bytes of a word.
 const WORD: usize = 32;
+
+// What a scan for the first nonzero byte answers: the zero bytes before it, and the bytes looked at.
+pub struct Scan {
+    pub zeros: usize,
+    pub looked: usize,
+}
 
 // Pushes a word of 32 bytes, highest first. Refusals: 2 (not 32 bytes), 6, 4, 5.
 pub fn push_minimal_u256(state: u64, bytes: &mut [u8], words: &mut [u32], word: &[u8]) -> u64
@@ -91,24 +97,29 @@ fn add_push(state: u64, bytes: &mut [u8], words: &mut [u32], digits: &[u8]) -> u
     ensures words { λ _. ⌜ now (words .exit) ≡ addAfter wordsPerSection (ops (minimalPush (number (now (digits .entry)))))
         (storeIn state (now (bytes .entry)) (now (words .entry))) .words ⌝ }
 {
-    let zeros = leading_zeros(digits);
+    let zeros = leading_zeros(digits).zeros;
     let push = push_bytes(digits, zeros);
     let end = digits.len() + 1;
     add_bytes(state, bytes, words, BytesKind::Ops, &push[zeros..end])
 }
 
-// How many zero bytes a number begins with.
-fn leading_zeros(digits: &[u8]) -> usize
-    ensures { λ r. ⌜ LeadingZeros (now (digits .entry)) r ⌝ }
+// How many zero bytes a number begins with, and how many bytes were looked at, counted as they are read: the scan ends at the first
+// nonzero byte. Takes every slice.
+pub fn leading_zeros(digits: &[u8]) -> Scan
+    ensures zeros { λ r. ⌜ LeadingZeros (now (digits .entry)) (r .zeros) ⌝ }
+    ensures looked { λ r. ⌜ r .looked ≡ looked (now (digits .entry)) ⌝ }
 {
     let mut i = 0;
+    let mut looked = 0;
     while i < digits.len() {
-        if digits[i] != 0 {
-            return i;
+        let byte = digits[i];
+        looked += 1;
+        if byte != 0 {
+            return Scan { zeros: i, looked };
         }
         i += 1;
     }
-    i
+    Scan { zeros: i, looked }
 }
 
 // A number after one byte more, with the opcode in the place before the bytes that it pushes.

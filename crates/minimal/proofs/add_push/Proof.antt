@@ -52,7 +52,7 @@ returns c =
     let a = start .args in
     let digits = now (a .digits) in
     let all : AllBytes digits = λ i. omega (arith, known .shared-slice-known .given i) in
-    let push = made .push-bytes .ensures .1 ∙ minimal-of digits (scanned .leading-zeros .result) (start .pre) all (scanned .leading-zeros .ensures) in
+    let push = made .push-bytes .ensures .1 ∙ minimal-of digits (scanned .leading-zeros .result .zeros) (start .pre) all (scanned .leading-zeros .ensures .0) in
     add-same wordsPerSection _ (ops (minimalPush (number digits))) (storeIn (a .state) (now (a .bytes)) (now (a .words))) _ _ _
     (ap ops push) (added .add-bytes .ensures)
 
