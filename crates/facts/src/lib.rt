@@ -1,4 +1,5 @@
-// The small calls, by number: landing, the opcodes, and the sizes of references by their form. Every function takes every argument.
+// The small calls, by number: landing, the opcodes, the sizes of references by their form, and the scan for the first nonzero byte. Every
+// function takes every argument.
 use evm::landing::Landing;
 use evm::op::PushSize;
 use numbers::Form;
@@ -12,6 +13,7 @@ use units::Refusal;
 use units::SetSize;
 use units::SizeFor;
 ghost use mathlib.Core.Path.{_≡_};
+ghost use Prim.Native.Nat.{_+_, _/_};
 ghost use Rattle.units.specs.Numbers.{heldBytes};
 ghost use Rattle.evm.specs.Landing.{landingAt};
 ghost use Rattle.evm.specs.Opcodes.{opPushSize, immediateBytes};
@@ -19,6 +21,7 @@ ghost use Rattle.opcodes.specs.Names.{opName};
 ghost use Rattle.units.specs.Replies.{tooNarrow};
 ghost use Rattle.numbers.specs.Numbers.{packed};
 ghost use Rattle.numbers.specs.Forms.{formOf, direct, formed, sizeForNumber, leastSizeNumber};
+ghost use Rattle.minimal.specs.Zeros.{LeadingZeros, looked};
 ghost use Rattle.facts.specs.Facts.{landingNumber, nameNumber, nameArray};
 
 // Whether a jump may land: 1 yes, 0 no.
@@ -84,6 +87,16 @@ pub fn least_size(form: u32) -> u64
         return NAMES_NOTHING;
     };
     any_mark(set_size, pushed).least_size() as u64
+}
+
+// The scan for the first nonzero byte: the zero bytes before it and the bytes looked at, added. The second is the first or one more, so half
+// of the answer, rounded down, is the zeros, and rounded up the bytes looked at.
+pub fn leading_zeros(bytes: &[u8]) -> u64
+    ensures zeros { λ r. ⌜ LeadingZeros (now (bytes .entry)) (r / 2) ⌝ }
+    ensures looked { λ r. ⌜ (r + 1) / 2 ≡ looked (now (bytes .entry)) ⌝ }
+{
+    let scan = minimal::leading_zeros(bytes);
+    (scan.zeros + scan.looked) as u64
 }
 
 // The value is too wide.

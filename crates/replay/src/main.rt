@@ -50,6 +50,7 @@ fn take_step(
     match kind {
         0 => memory::start_anew(bytes, words, table, result, text),
         1..=12 => building::build(store, step, pool, bytes, words),
+        13 => reading::scan(store, step.a, step.b, pool),
         16..=19 => memory::set(store, step, bytes, words, table),
         20 => assembling::assemble(store, step.a, bytes, words, table, result),
         21 => reading::list(store, bytes, words, text),

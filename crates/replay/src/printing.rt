@@ -3,6 +3,7 @@ use assembler::Assembled;
 use evm::landing::Landing;
 use libc::STDOUT_FILENO;
 use listing::Listed;
+use minimal::Scan;
 use records::Assembler;
 use settling::Settled;
 use store::Built;
@@ -96,6 +97,15 @@ pub(crate) fn say_landing(landing: Landing) {
         Landing::Yes => say(b"yes\n"),
         Landing::No => say(b"no\n"),
     }
+}
+
+// The line of a scan.
+pub(crate) fn say_scan(scan: Scan) {
+    say(b"zeros ");
+    io::print_decimal(STDOUT_FILENO, scan.zeros as u64);
+    say(b" looked ");
+    io::print_decimal(STDOUT_FILENO, scan.looked as u64);
+    say(b"\n");
 }
 
 // Two hex digits of each byte.

@@ -13,7 +13,9 @@
 //   number 1 to 14, a refusal of document 01, and 16, of document 02's request 3: mid = passes, low = section.
 //   number 255, an argument names nothing: mid = low = 0, and nothing changed.
 // An empty run of op bytes is accepted and answers its state, whatever number that has.
-// `sadrokki_lands`, `sadrokki_push_size` and `sadrokki_bytes_to_hold` can't be refused and answer their result alone.
+// `sadrokki_lands`, `sadrokki_push_size`, `sadrokki_bytes_to_hold` and `sadrokki_leading_zeros` can't be refused and answer their result
+// alone; the last has two results, the zero bytes and the bytes looked at, added: the second is the first or one more, so half of the
+// answer, rounded down and rounded up, gives both.
 //
 // Form of a reference: set size (0 unsized, else 1 to 4) plus 8 if pushed. 0 to 4 and 8 to 12; any other names nothing.
 mod assemble;

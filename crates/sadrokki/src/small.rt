@@ -1,10 +1,12 @@
-// The small calls: landing, the opcodes, and the sizes of references.
+// The small calls: landing, the opcodes, the sizes of references, and the scan for the first nonzero byte.
 ghost use mathlib.Core.Path.{_≡_};
+ghost use Prim.Native.Nat.{_+_, _/_};
 ghost use Rattle.units.specs.Numbers.{heldBytes};
 ghost use Rattle.evm.specs.Landing.{landingAt};
 ghost use Rattle.evm.specs.Opcodes.{opPushSize, immediateBytes};
 ghost use Rattle.opcodes.specs.Names.{opName};
 ghost use Rattle.numbers.specs.Forms.{formOf, sizeForNumber, leastSizeNumber};
+ghost use Rattle.minimal.specs.Zeros.{LeadingZeros, looked};
 ghost use Rattle.facts.specs.Facts.{landingNumber, nameNumber, nameArray};
 
 // Whether a jump may land: 1 yes, 0 no.
@@ -54,4 +56,13 @@ pub extern "C" fn sadrokki_least_size(form: u32) -> u64
     ensures { λ r. ⌜ r ≡ leastSizeNumber (formOf form) ⌝ }
 {
     facts::least_size(form)
+}
+
+// The scan for the first nonzero byte: half of the answer, rounded down, is the zero bytes before it, and rounded up the bytes looked at.
+#[no_mangle]
+pub extern "C" fn sadrokki_leading_zeros(bytes: &[u8]) -> u64
+    ensures zeros { λ r. ⌜ LeadingZeros (now (bytes .entry)) (r / 2) ⌝ }
+    ensures looked { λ r. ⌜ (r + 1) / 2 ≡ looked (now (bytes .entry)) ⌝ }
+{
+    facts::leading_zeros(bytes)
 }
