@@ -141,6 +141,33 @@ static void pairs(void) {
     SAME(sadrokki_write(0, bytes, 0, words, 0, table, 0, code, 0, 0), 0);
 }
 
+static void scans(void) {
+    uint8_t word[32] = {0};
+    const uint8_t three[] = {0, 0, 7};
+
+    /* A zero word, 12 zeros before a byte, a byte at either end; another length; no byte at all. */
+    uint64_t answer = sadrokki_leading_zeros(word, 32);
+    SAME(SADROKKI_ZEROS(answer), 32);
+    SAME(SADROKKI_LOOKED(answer), 32);
+    memset(word + 12, 0xff, 20);
+    answer = sadrokki_leading_zeros(word, 32);
+    SAME(SADROKKI_ZEROS(answer), 12);
+    SAME(SADROKKI_LOOKED(answer), 13);
+    answer = sadrokki_leading_zeros(word + 12, 20);
+    SAME(SADROKKI_ZEROS(answer), 0);
+    SAME(SADROKKI_LOOKED(answer), 1);
+    memset(word, 0, 31);
+    answer = sadrokki_leading_zeros(word, 32);
+    SAME(SADROKKI_ZEROS(answer), 31);
+    SAME(SADROKKI_LOOKED(answer), 32);
+    answer = sadrokki_leading_zeros(three, 3);
+    SAME(SADROKKI_ZEROS(answer), 2);
+    SAME(SADROKKI_LOOKED(answer), 3);
+    answer = sadrokki_leading_zeros(three, 0);
+    SAME(SADROKKI_ZEROS(answer), 0);
+    SAME(SADROKKI_LOOKED(answer), 0);
+}
+
 int main(void) {
     uint8_t bytes[64], code[64], text[256], name[14];
     uint32_t words[3 * 16], table[2];
@@ -190,6 +217,7 @@ int main(void) {
 
     runs();
     pairs();
+    scans();
 
     /* Refusals, and arguments that name nothing. */
     SAME(sadrokki_push_swap(STORE, 0), ANSWER(1, 0, 0));

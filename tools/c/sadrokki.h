@@ -11,6 +11,7 @@
  *     sizes before its mark): mid = passes (0 for write), low = section.
  *   number 255: an argument names nothing; nothing changed.
  *   An empty run of op bytes is accepted and answers its state, whatever number that has.
+ *   leading_zeros is never refused: its whole answer is two counts added, which SADROKKI_ZEROS and SADROKKI_LOOKED take out.
  * A building call's refusal or 255, given on as a state, has a section count above the limit. sadrokki_clear takes it, as any
  * state, and answers the empty one; an empty run of op bytes answers it as it was; every other call refuses again: for its own
  * arguments (1, 2, 3, 255), else with 6 at section 0. So where the first building call was given a state with number 0 and each
@@ -26,6 +27,8 @@
 #define SADROKKI_NUMBER(answer) ((uint32_t)((answer) >> 56))
 #define SADROKKI_MID(answer) ((uint32_t)((answer) >> 32 & 0xffffff))
 #define SADROKKI_LOW(answer) ((uint32_t)(answer))
+#define SADROKKI_ZEROS(answer) ((answer) / 2)
+#define SADROKKI_LOOKED(answer) ((answer) - (answer) / 2)
 #define SADROKKI_PUSHED 8
 
 #ifdef __cplusplus
@@ -79,6 +82,9 @@ uint32_t sadrokki_bytes_to_hold(uint32_t value);
 /* The size of a reference of this form for a value (10 if it is too narrow), and its least size. */
 uint64_t sadrokki_size_for(uint32_t form, uint32_t value);
 uint64_t sadrokki_least_size(uint32_t form);
+/* The scan for the first byte that isn't 0: SADROKKI_ZEROS of the answer is how many zeros are before it (all the bytes, if
+ * there is none), SADROKKI_LOOKED how many bytes were looked at, one more if there is such a byte. */
+uint64_t sadrokki_leading_zeros(const uint8_t *bytes, size_t bytes_len);
 
 #ifdef __cplusplus
 }

@@ -445,6 +445,23 @@ class Script:
         end = self.near(0, n, r.randint(0, n), TOP)
         self.add(22, self.near(0, end, r.randint(0, n), TOP), end)
 
+    def scan(self):
+        """Scans of words, of parts and bad parts of the pool, and of zeros up to one of its bytes and past it."""
+        r, n = self.r, len(self.pool)
+        for _ in range(r.randint(1, 4)):
+            way = r.randint(0, 3)
+            if way == 0:
+                self.add(13, *self.part())
+            elif way == 1 or n == 0:
+                self.add(13, *self.word())
+            elif way == 2:
+                self.add(13, r.randint(0, n), n)
+            else:
+                at = max(0, self.pool.find(bytes(r.choice([1, 2, 31, 32, 33])), r.randrange(n)))
+                self.add(13, at, min(n, at + r.choice([1, 31, 32, 33, 64, 300])))
+        if r.random() < 0.2:
+            self.show()
+
     def span(self, kind, what):
         """A section of Ops (1) or Data (2) of its own, where the store takes it."""
         at = len(self.pool)
@@ -497,12 +514,12 @@ class Script:
 
     def body(self):
         r = self.r
-        mixes = [[8, 0, 1, 0, 1, 0, 1, 0, 1, 0, 0, 0, 0], [6, 3, 2, 1, 2, 1, 2, 1, 2, 0, 0, 0, 0], [3, 5, 2, 1, 2, 1, 2, 3, 2, 0, 0, 0, 0], [8, 1, 1, 1, 1, 1, 1, 1, 1, 0, 0, 0, 0], [1, 1, 1, 0, 1, 1, 1, 1, 1, 5, 0, 0, 0]]
-        ways = [1, 1, 1, 0, 1, 1, 1, 1, 1, 1, 12, r.choice([0, 0, 1]), 3] if self.coding else r.choice(mixes)
-        many = r.choice([1, 3, 10]) if sum(ways[9:]) else r.choice([3, 20, 60, 150])
+        mixes = [[8, 0, 1, 0, 1, 0, 1, 1, 0, 1, 0, 0, 0, 0], [6, 3, 2, 1, 2, 1, 1, 2, 1, 2, 0, 0, 0, 0], [3, 5, 2, 1, 2, 1, 1, 2, 3, 2, 0, 0, 0, 0], [8, 1, 1, 1, 1, 1, 1, 1, 1, 1, 0, 0, 0, 0], [1, 1, 1, 0, 1, 1, 1, 1, 1, 1, 5, 0, 0, 0]]
+        ways = [1, 1, 1, 0, 1, 1, 1, 1, 1, 1, 1, 12, r.choice([0, 0, 1]), 3] if self.coding else r.choice(mixes)
+        many = r.choice([1, 3, 10]) if sum(ways[10:]) else r.choice([3, 20, 60, 150])
         jobs = r.choice([0, 0.05, 0.3])
         for _ in range(many):
-            way = r.choices([self.build, self.damage, self.show, self.odd, self.listing, self.landing, self.assembly, self.runs, self.pair, self.good_store, self.code, self.restless, self.two_tables], ways)[0]
+            way = r.choices([self.build, self.damage, self.show, self.odd, self.listing, self.landing, self.scan, self.assembly, self.runs, self.pair, self.good_store, self.code, self.restless, self.two_tables], ways)[0]
             if r.random() < jobs:
                 self.job()
             way()
@@ -641,6 +658,27 @@ def run_edges():
         yield f"a run of {n - 1} after an op byte and a mark", whole((most, 9), some(n), [op, mark, (12, 1, n), *after])
     steps = [s for n in (0, 1, 2, 3, 4, 70000) for s in ((0, 0, 0), *record(0, 1, 0, most - 3), (18, most - 3, 1), (12, 65537, 65537 + n), (24, most - 5, most), (25, 0, 6))]
     yield "runs at the longest slice's end", whole((most, 6), some(140000), steps)
+
+
+def scan_edges():
+    """Scans at their boundaries: (what, script)."""
+
+    def whole(pool, steps):
+        return struct.pack(">6I", 64, 6, 1, 4, 64, len(pool)) + pool + b"".join(struct.pack(">BII", *s) for s in steps)
+
+    # every number of zeros up to 70 in every length up to 140, zeros or other bytes after the first that isn't 0
+    for after in (b"\0", b"\xff"):
+        yield f"zeros, then a byte, then {after}", whole(bytes(70) + b"\x01" + after * 70, [(13, a, b) for a in range(71) for b in range(a, 142)])
+    yield "every byte", whole(bytes(range(256)), [(13, a, a + n) for a in range(256) for n in (1, 2, 3)])
+    # parts of the pool, good and bad; the store and the slices as they were
+    for n in (0, 1, 2, 32):
+        places = [i for i in (0, 1, n - 1, n, n + 1, TOP) if i >= 0]
+        shown = [(24, 0, 64), (25, 0, 6), (26, 0, 1), (27, 0, 4), (28, 0, 64)]
+        steps = [(1, 0, 0), (2, 0x5B, 0), (20, 0, 0), (21, 0, 0), *shown, *((13, a, b) for a in places for b in places), *shown, (2, 0x5B, 0)]
+        yield f"scans of a pool of {n}", whole(bytes(n), steps)
+    # long ones, up to the longest pool
+    for n in (255, 256, 65535, 65536, 65537, 1048500):
+        yield f"{n} zeros, and a byte", whole(bytes(n) + b"\x80", [(13, 0, n), (13, 0, n + 1), (13, 1, n + 1), (13, 0, n + 2)])
 
 
 def line_11():

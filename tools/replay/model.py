@@ -1,6 +1,6 @@
 #!/usr/bin/env python3
 """An independent model of `replay`. Reads a script on standard input, prints what replay must print.
-Written from docs/REPLAY.md, document 01 (modules 1 to 6, Replies), requests 1 to 3 of document 02 as docs/DECISIONS.md reads them, and
+Written from docs/REPLAY.md, document 01 (modules 1 to 6, Replies), requests 1 to 4 of document 02 as docs/DECISIONS.md reads them, and
 op.rs for the names; it shares nothing with the Rattle code. `job_text` is the model of `job`."""
 import copy, sys
 
@@ -337,6 +337,13 @@ class Model:
         self.put(sections, position, length)
         return f"length {length} passes 0"
 
+    # -- document 02, CR 4
+
+    def scan(self, part):
+        zeros = len(part) - len(part.lstrip(b"\0"))
+        looked = len(part[: zeros + 1])  # up to and with the first byte that isn't 0
+        return f"zeros {zeros} looked {looked}"
+
     # -- document 01, module 5
 
     def lines(self):
@@ -405,6 +412,8 @@ class Model:
             return self.building(self.clear)
         if kind == 12:
             return self.building(self.push_op_bytes, part) if part is not None else None
+        if kind == 13:
+            return self.scan(part) if part is not None else None
         if kind == 16:
             if a >= len(self.bytes) or b > 255:
                 return None

@@ -50,6 +50,7 @@ u64 = lambda v: step(9, v >> 32, v & TOP)
 u32 = lambda v: step(10, v)
 clear = lambda: step(11)
 ops = lambda what: step(12, *keep(what))
+scan = lambda what: step(13, *keep(what))
 set_byte = lambda i, v: step(16, i, v)
 set_word = lambda i, v: step(17, i, v)
 counts = lambda b, s: step(18, b, s)
@@ -839,10 +840,23 @@ step(26, TABLE - 2, TABLE)
 step(27, 0, 0)
 step(26, TABLE, TABLE)
 
+# scans: words with 12 zeros, with nothing else, with 31 and with none; other lengths; long ones; a part that is bad; nothing changed
+new()
+op(0x5B)
+for zeros_before in (12, 32, 31, 0):
+    scan(bytes(zeros_before) + b"\xff" * (32 - zeros_before))
+scan(bytes(12) + b"\x01" + bytes(19))
+for what in (b"", b"\x00", b"\x07", b"\x00\x00\x07", bytes(2048), bytes(2048) + b"\x07"):
+    scan(what)
+step(13, 5, 5)
+step(13, 6, 5)
+show()
+op(0x5C)
+
 # bad steps, and nothing changed by them
 new()
 op(0x5B)
-for kind in (13, 14, 15, 31, 37, 38, 39, 45, 46, 64, 128, 255):
+for kind in (14, 15, 31, 37, 38, 39, 45, 46, 64, 128, 255):
     step(kind, 0, 0)
 for v in (256, 257, TOP):
     op(v)
@@ -856,7 +870,7 @@ direct(MARK + 1, 5)
 for kind, n in ((24, BYTES), (25, WORDS), (26, TABLE), (27, RESULT), (28, LISTING)):
     for a, b in ((1, 0), (0, n + 1), (n + 1, n + 1), (n, n + 1), (TOP, TOP), (0, TOP), (TOP, 0)):
         step(kind, a, b)
-for kind in (3, 8, 12, 30):
+for kind in (3, 8, 12, 13, 30):
     for a, b in ((1, 0), (0, 1), (1, 1), (-1, -2), (0, 0)):
         steps.append((kind, a, b))
     step(kind, TOP, TOP)

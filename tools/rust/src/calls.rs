@@ -211,6 +211,7 @@ unsafe extern "C" {
     fn sadrokki_lands(code: *const u8, code_len: usize, offset: usize) -> u32;
     fn sadrokki_op_name(byte: u8, name: *mut u8, name_len: usize) -> u64;
     fn sadrokki_push_size(byte: u8) -> u32;
+    fn sadrokki_leading_zeros(bytes: *const u8, bytes_len: usize) -> u64;
 }
 
 pub fn new() -> u64 {
@@ -477,4 +478,8 @@ pub fn op_name(byte: u8, name: &mut [u8]) -> Answer {
 
 pub fn push_size(byte: u8) -> u32 {
     unsafe { sadrokki_push_size(byte) }
+}
+
+pub fn leading_zeros(bytes: &[u8]) -> u64 {
+    unsafe { sadrokki_leading_zeros(bytes.as_ptr(), bytes.len()) }
 }

@@ -1,4 +1,5 @@
-//! `name` and `push_size` of the original's op.rs. Its constants aren't here: they are the opcodes' numbers.
+//! `name` and `push_size` of the original's op.rs, and small calls that it doesn't have. Its constants aren't here: they are the
+//! opcodes' numbers.
 
 use crate::calls;
 use std::sync::OnceLock;
@@ -22,4 +23,21 @@ pub fn push_size(opcode: u8) -> Option<u8> {
 /// Whether a jump may land at an offset of a code.
 pub fn lands(code: &[u8], offset: usize) -> bool {
     calls::lands(code, offset) == 1
+}
+
+/// What a scan for the first byte that isn't 0 finds: the zeros before it, all the bytes if there is none, and the bytes looked
+/// at, up to and with that byte.
+#[derive(Debug, Clone, Copy, PartialEq, Eq)]
+pub struct Scan {
+    pub zeros: usize,
+    pub looked: usize,
+}
+
+/// The scan of a word's bytes, highest first, or of any others. Both counts come added, and the second is the first or one more.
+pub fn leading_zeros(bytes: &[u8]) -> Scan {
+    let both = calls::leading_zeros(bytes) as usize;
+    Scan {
+        zeros: both / 2,
+        looked: both - both / 2,
+    }
 }

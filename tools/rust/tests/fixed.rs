@@ -369,6 +369,44 @@ fn op_bytes() {
 }
 
 #[test]
+fn scans() {
+    // 12 zeros, a zero word, none, 31; no bytes; another length.
+    let word = |zeros: usize| [vec![0; zeros], vec![0xff; 32 - zeros]].concat();
+    let scan = |zeros, looked| op::Scan { zeros, looked };
+    for (bytes, found) in [
+        (word(12), scan(12, 13)),
+        (word(32), scan(32, 32)),
+        (word(0), scan(0, 1)),
+        (word(31), scan(31, 32)),
+        (vec![], scan(0, 0)),
+        (vec![0, 0, 7], scan(2, 3)),
+    ] {
+        assert_eq!(op::leading_zeros(&bytes), found);
+    }
+    // Each length and each place of the first byte that isn't 0, before zeros and before others, counted by a loop.
+    for length in 0..=70 {
+        for first in 0..=length {
+            for (one, others) in [(1, 0), (0x80, 0), (0xff, 0xff)] {
+                let mut bytes = vec![0; length];
+                bytes[first..].fill(others);
+                if first < length {
+                    bytes[first] = one;
+                }
+                let mut counted = scan(0, 0);
+                for byte in &bytes {
+                    counted.looked += 1;
+                    if *byte != 0 {
+                        break;
+                    }
+                    counted.zeros += 1;
+                }
+                assert_eq!(op::leading_zeros(&bytes), counted, "{bytes:?}");
+            }
+        }
+    }
+}
+
+#[test]
 fn refusals_panic() {
     let calls: [(u32, fn(&mut Assembler)); 5] = [
         (1, |asm| asm.push_swap(0)),
