@@ -16,7 +16,9 @@ ghost use Rattle.records.specs.Sections.{ops};
 ghost use Rattle.calls.specs.Calls.{minimalPush, pushMinimalU256, pushMinimalU64, pushMinimalU32, addReply, addAfter};
 ghost use Rattle.calls.specs.Calls.{pushReply, pushAfter};
 ghost use Rattle.numbers.specs.Numbers.{storeIn, builtNumber};
+ghost use mathlib.Core.Bool.{true};
 ghost use Rattle.minimal.specs.Zeros.{LeadingZeros, looked};
+ghost use Rattle.minimal.specs.OneByte.{OneByte, ZerosFrom};
 
 // The bytes of a word.
 const WORD: usize = 32;
@@ -87,8 +89,29 @@ fn add_number(state: u64, bytes: &mut [u8], words: &mut [u32], value: u64) -> u6
     add_push(state, bytes, words, &digits)
 }
 
-// Adds the minimal push of a number of at most 32 bytes, highest first.
+// Adds the minimal push of a number of at most 32 bytes, highest first. A word of one byte isn't scanned: reading its 31 zeros would take
+// longer than all the rest.
 fn add_push(state: u64, bytes: &mut [u8], words: &mut [u32], digits: &[u8]) -> u64
+    requires { ⌜ length (now digits) ≤ 32 ⌝ }
+    ensures reply { λ r. ⌜ r ≡ builtNumber (addReply wordsPerSection (ops (minimalPush (number (now (digits .entry)))))
+        (storeIn state (now (bytes .entry)) (now (words .entry)))) ⌝ }
+    ensures bytes { λ _. ⌜ now (bytes .exit) ≡ addAfter wordsPerSection (ops (minimalPush (number (now (digits .entry)))))
+        (storeIn state (now (bytes .entry)) (now (words .entry))) .bytes ⌝ }
+    ensures words { λ _. ⌜ now (words .exit) ≡ addAfter wordsPerSection (ops (minimalPush (number (now (digits .entry)))))
+        (storeIn state (now (bytes .entry)) (now (words .entry))) .words ⌝ }
+{
+    if !is_one_byte(digits) {
+        return add_scanned(state, bytes, words, digits);
+    }
+    let tried = short::extend_push(state, bytes, words, digits[WORD - 1] as u64);
+    if tried != 0 {
+        return tried;
+    }
+    add_scanned(state, bytes, words, digits)
+}
+
+// Adds the minimal push of a number of at most 32 bytes by the scan for its first nonzero byte.
+fn add_scanned(state: u64, bytes: &mut [u8], words: &mut [u32], digits: &[u8]) -> u64
     requires { ⌜ length (now digits) ≤ 32 ⌝ }
     ensures reply { λ r. ⌜ r ≡ builtNumber (addReply wordsPerSection (ops (minimalPush (number (now (digits .entry)))))
         (storeIn state (now (bytes .entry)) (now (words .entry)))) ⌝ }
@@ -100,7 +123,47 @@ fn add_push(state: u64, bytes: &mut [u8], words: &mut [u32], digits: &[u8]) -> u
     let zeros = leading_zeros(digits).zeros;
     let push = push_bytes(digits, zeros);
     let end = digits.len() + 1;
+    let tried = short::extend_ops(state, bytes, words, &push[zeros..end]);
+    if tried != 0 {
+        return tried;
+    }
     add_bytes(state, bytes, words, BytesKind::Ops, &push[zeros..end])
+}
+
+// A word below 256, told by comparing eight bytes at a time, not by a scan.
+fn is_one_byte(digits: &[u8]) -> bool
+    ensures { λ r. ⌜ (r ≡ true → OneByte (now (digits .entry))) ⌝ }
+{
+    if digits.len() != WORD {
+        return false;
+    }
+    if !eight_zeros(digits, 0) {
+        return false;
+    }
+    if !eight_zeros(digits, 8) {
+        return false;
+    }
+    if !eight_zeros(digits, 16) {
+        return false;
+    }
+    eight_zeros(digits, 23)
+}
+
+// Eight bytes from a place on are all 0: compiled to one comparison.
+fn eight_zeros(digits: &[u8], at: usize) -> bool
+    requires { ⌜ at + 8 ≤ length (now digits) ⌝ }
+    ensures { λ r. ⌜ (r ≡ true → ZerosFrom (now (digits .entry)) at 8) ⌝ }
+{
+    let high = (digits[at] as u64) * 0x100_0000_0000_0000
+        + (digits[at + 1] as u64) * 0x1_0000_0000_0000
+        + (digits[at + 2] as u64) * 0x100_0000_0000
+        + (digits[at + 3] as u64) * 0x1_0000_0000;
+    high
+        + (digits[at + 4] as u64) * 0x100_0000
+        + (digits[at + 5] as u64) * 0x1_0000
+        + (digits[at + 6] as u64) * 0x100
+        + (digits[at + 7] as u64)
+        == 0
 }
 
 // How many zero bytes a number begins with, and how many bytes were looked at, counted as they are read: the scan ends at the first

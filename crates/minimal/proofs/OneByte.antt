@@ -1,0 +1,65 @@
+-- Zeros from a place on, and the number that a word of one byte is. Assumes nothing.
+use Prim.Native.Nat.{ℕ, _+_, _*_, _≤_, _<_}
+use native.Mathlib.Omega.{arith}
+use native.Mathlib.Nat.{add-zero, eq-or-lt-of-le}
+use mathlib.Core.Path.{_≡_, refl, sym, ap, subst, _∙_}
+use mathlib.Core.Bool.{Bool, true, false}
+use mathlib.Core.List.{List, [], _∷_}
+use mathlib.Core.Logic.{⊎-elim}
+use lib.ListN.{length, getD, drop, drop-of-length-le}
+use lib.Seq.{drop-cons}
+use lib.Dec.{ltb}
+use borrow.Author.Tests.{ltb-true, ltb-false}
+use Rattle.units.specs.Numbers.{number, numberAfter}
+use Rattle.units.proofs.BigEndian.{number-drop}
+use Rattle.records.specs.Store.{Store}
+use Rattle.records.specs.Sections.{ops}
+use Rattle.calls.specs.Calls.{minimalPush}
+use Rattle.short.specs.Tried.{TriedSection}
+use Rattle.minimal.specs.OneByte.{ZerosFrom, OneByte}
+
+none : (bs : List ℕ) (at : ℕ) → ZerosFrom bs at 0
+none bs at i l h = absurd (omega arith)
+
+-- one zero more
+more : (bs : List ℕ) (at count : ℕ) → ZerosFrom bs at count → getD bs (at + count) 0 ≡ 0 → ZerosFrom bs at (count + 1)
+more bs at count z e i l h =
+    ⊎-elim (λ (d : i ≡ at + count). subst (λ (j : ℕ). getD bs j 0 ≡ 0) (sym d) e) (λ (d : i < at + count). z i l d) (eq-or-lt-of-le (omega arith))
+
+-- eight bytes are 0 where the number that they are is
+pub eight : (bs : List ℕ) (at : ℕ)
+    → getD bs at 0 * 72057594037927936 + getD bs (at + 1) 0 * 281474976710656 + getD bs (at + 2) 0 * 1099511627776
+    + getD bs (at + 3) 0 * 4294967296 + getD bs (at + 4) 0 * 16777216 + getD bs (at + 5) 0 * 65536 + getD bs (at + 6) 0 * 256
+    + getD bs (at + 7) 0 ≡ 0
+    → ZerosFrom bs at 8
+eight bs at e =
+    let first : getD bs (at + 0) 0 ≡ 0 = ap (λ (j : ℕ). getD bs j 0) (add-zero at) ∙ omega (arith, e) in
+    let two = more bs at 1 (more bs at 0 (none bs at) first) (omega (arith, e)) in
+    let four = more bs at 3 (more bs at 2 two (omega (arith, e))) (omega (arith, e)) in
+    let six = more bs at 5 (more bs at 4 four (omega (arith, e))) (omega (arith, e)) in
+    more bs at 7 (more bs at 6 six (omega (arith, e))) (omega (arith, e))
+
+-- zeros that begin where others end, or before
+pub join : (bs : List ℕ) (a m b n : ℕ) → b ≤ a + m → ZerosFrom bs a m → ZerosFrom bs b n → (i : ℕ) → a ≤ i → i < b + n → getD bs i 0 ≡ 0
+join bs a m b n within first then i l h = go (ltb i (a + m)) refl
+  where
+    go : (t : Bool) → ltb i (a + m) ≡ t → getD bs i 0 ≡ 0
+    go true e = first i l (ltb-true i (a + m) e)
+    go false e = then i (omega (arith, ltb-false i (a + m) e)) h
+
+number-one : (b : ℕ) → number (b ∷ []) ≡ b
+unfolding number numberAfter
+number-one b = omega arith
+
+-- it is its last byte
+one-byte : (bs : List ℕ) → OneByte bs → number bs ≡ getD bs 31 0
+one-byte bs h =
+    let last : ℕ = getD bs 31 0 in
+    let one : drop 31 bs ≡ last ∷ [] = drop-cons bs 31 0 (omega (arith, h .0)) ∙ ap (λ (x : List ℕ). last ∷ x) (drop-of-length-le bs {i = 32} (omega (arith, h .0))) in
+    sym (number-drop 31 bs (λ i l. h .1 i (omega arith) (omega arith))) ∙ ap number one ∙ number-one last
+
+-- what was tried of the byte was tried of the word
+pub word-tried : (digits : List ℕ) → OneByte digits → {st : Store} {tried : ℕ} {bs ws : List ℕ}
+    → TriedSection (ops (minimalPush (getD digits 31 0))) st tried bs ws → TriedSection (ops (minimalPush (number digits))) st tried bs ws
+word-tried digits h {st = st} {tried = tried} {bs = bs} {ws = ws} t =
+    subst (λ (v : ℕ). TriedSection (ops (minimalPush v)) st tried bs ws) (sym (one-byte digits h)) t
