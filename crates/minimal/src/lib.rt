@@ -17,6 +17,7 @@ ghost use Rattle.calls.specs.Calls.{minimalPush, pushMinimalU256, pushMinimalU6
 ghost use Rattle.calls.specs.Calls.{pushReply, pushAfter};
 ghost use Rattle.numbers.specs.Numbers.{storeIn, builtNumber};
 ghost use mathlib.Core.Bool.{true};
+ghost use Rattle.short.specs.Tried.{TriedSection};
 ghost use Rattle.minimal.specs.Zeros.{LeadingZeros, looked};
 ghost use Rattle.minimal.specs.OneByte.{OneByte, ZerosFrom};
 
@@ -41,7 +42,11 @@ pub fn push_minimal_u256(state: u64, bytes: &mut [u8], words: &mut [u32], word: 
     if word.len() != WORD {
         return refusal_number(Refusal::BadWord);
     }
-    add_push(state, bytes, words, word)
+    let tried = extend_one_byte(state, bytes, words, word);
+    if tried != 0 {
+        return tried;
+    }
+    add_push(state, bytes, words, &word[..])
 }
 
 // Pushes a number. Refusals: 6, 4, 5.
@@ -89,29 +94,8 @@ fn add_number(state: u64, bytes: &mut [u8], words: &mut [u32], value: u64) -> u6
     add_push(state, bytes, words, &digits)
 }
 
-// Adds the minimal push of a number of at most 32 bytes, highest first. A word of one byte isn't scanned: reading its 31 zeros would take
-// longer than all the rest.
+// Adds the minimal push of a number of at most 32 bytes, highest first.
 fn add_push(state: u64, bytes: &mut [u8], words: &mut [u32], digits: &[u8]) -> u64
-    requires { ⌜ length (now digits) ≤ 32 ⌝ }
-    ensures reply { λ r. ⌜ r ≡ builtNumber (addReply wordsPerSection (ops (minimalPush (number (now (digits .entry)))))
-        (storeIn state (now (bytes .entry)) (now (words .entry)))) ⌝ }
-    ensures bytes { λ _. ⌜ now (bytes .exit) ≡ addAfter wordsPerSection (ops (minimalPush (number (now (digits .entry)))))
-        (storeIn state (now (bytes .entry)) (now (words .entry))) .bytes ⌝ }
-    ensures words { λ _. ⌜ now (words .exit) ≡ addAfter wordsPerSection (ops (minimalPush (number (now (digits .entry)))))
-        (storeIn state (now (bytes .entry)) (now (words .entry))) .words ⌝ }
-{
-    if !is_one_byte(digits) {
-        return add_scanned(state, bytes, words, digits);
-    }
-    let tried = short::extend_push(state, bytes, words, digits[WORD - 1] as u64);
-    if tried != 0 {
-        return tried;
-    }
-    add_scanned(state, bytes, words, digits)
-}
-
-// Adds the minimal push of a number of at most 32 bytes by the scan for its first nonzero byte.
-fn add_scanned(state: u64, bytes: &mut [u8], words: &mut [u32], digits: &[u8]) -> u64
     requires { ⌜ length (now digits) ≤ 32 ⌝ }
     ensures reply { λ r. ⌜ r ≡ builtNumber (addReply wordsPerSection (ops (minimalPush (number (now (digits .entry)))))
         (storeIn state (now (bytes .entry)) (now (words .entry)))) ⌝ }
@@ -130,39 +114,51 @@ fn add_scanned(state: u64, bytes: &mut [u8], words: &mut [u32], digits: &[u8]) -
     add_bytes(state, bytes, words, BytesKind::Ops, &push[zeros..end])
 }
 
-// A word below 256, told by comparing eight bytes at a time, not by a scan.
-fn is_one_byte(digits: &[u8]) -> bool
-    ensures { λ r. ⌜ (r ≡ true → OneByte (now (digits .entry))) ⌝ }
+// The minimal push of a word below 256 that extends a last Ops section. Such a word isn't scanned: reading its zeros would take longer than
+// all the rest.
+fn extend_one_byte(state: u64, bytes: &mut [u8], words: &mut [u32], word: &[u8]) -> u64
+    ensures { λ r. ⌜ TriedSection (ops (minimalPush (number (now (word .entry))))) (storeIn state (now (bytes .entry)) (now (words .entry))) r
+        (now (bytes .exit)) (now (words .exit)) ⌝ }
 {
-    if digits.len() != WORD {
+    if !is_one_byte(word) {
+        return 0;
+    }
+    short::extend_push(state, bytes, words, word[WORD - 1] as u64)
+}
+
+// A word below 256, told by comparing eight bytes at a time, not by a scan.
+fn is_one_byte(word: &[u8]) -> bool
+    ensures { λ r. ⌜ (r ≡ true → OneByte (now (word .entry))) ⌝ }
+{
+    if word.len() != WORD {
         return false;
     }
-    if !eight_zeros(digits, 0) {
+    if !eight_zeros(word, 0) {
         return false;
     }
-    if !eight_zeros(digits, 8) {
+    if !eight_zeros(word, 8) {
         return false;
     }
-    if !eight_zeros(digits, 16) {
+    if !eight_zeros(word, 16) {
         return false;
     }
-    eight_zeros(digits, 23)
+    eight_zeros(word, 23)
 }
 
 // Eight bytes from a place on are all 0: compiled to one comparison.
-fn eight_zeros(digits: &[u8], at: usize) -> bool
-    requires { ⌜ at + 8 ≤ length (now digits) ⌝ }
-    ensures { λ r. ⌜ (r ≡ true → ZerosFrom (now (digits .entry)) at 8) ⌝ }
+fn eight_zeros(word: &[u8], at: usize) -> bool
+    requires { ⌜ at + 8 ≤ length (now word) ⌝ }
+    ensures { λ r. ⌜ (r ≡ true → ZerosFrom (now (word .entry)) at 8) ⌝ }
 {
-    let high = (digits[at] as u64) * 0x100_0000_0000_0000
-        + (digits[at + 1] as u64) * 0x1_0000_0000_0000
-        + (digits[at + 2] as u64) * 0x100_0000_0000
-        + (digits[at + 3] as u64) * 0x1_0000_0000;
+    let high = (word[at] as u64) * 0x100_0000_0000_0000
+        + (word[at + 1] as u64) * 0x1_0000_0000_0000
+        + (word[at + 2] as u64) * 0x100_0000_0000
+        + (word[at + 3] as u64) * 0x1_0000_0000;
     high
-        + (digits[at + 4] as u64) * 0x100_0000
-        + (digits[at + 5] as u64) * 0x1_0000
-        + (digits[at + 6] as u64) * 0x100
-        + (digits[at + 7] as u64)
+        + (word[at + 4] as u64) * 0x100_0000
+        + (word[at + 5] as u64) * 0x1_0000
+        + (word[at + 6] as u64) * 0x100
+        + (word[at + 7] as u64)
         == 0
 }
 

@@ -1,34 +1,53 @@
--- A word of one byte at once, where it extends the last section; else what the scan gives.
+-- What adding the opcode and the bytes after the leading zeros gives, at once or judged.
 -- Assumes nothing.
 use borrow.Author.Needs.{needs}
 use native.Mathlib.Omega.{arith}
 use denote.Ref.{now}
-use borrow.Author.Tests.{not-false}
+use mathlib.Core.Path.{_≡_, ap, _∙_}
+use Prim.Native.Nat.{_+_, _-_}
+use lib.ListN.{length, take, drop}
+use Rattle.units.specs.Numbers.{number}
+use Rattle.units.proofs.BigEndian.{AllBytes}
+use Rattle.records.specs.Store.{wordsPerSection}
+use Rattle.records.specs.Sections.{ops}
+use Rattle.calls.specs.Calls.{minimalPush}
+use Rattle.numbers.specs.Numbers.{storeIn}
+use Rattle.numbers.proofs.Adds.{add-same}
 use Rattle.short.proofs.Judged.{add-judged}
-use Rattle.minimal.specs.OneByte.{OneByte}
-use Rattle.minimal.proofs.OneByte.{word-tried}
+use Rattle.minimal.proofs.Digits.{minimal-of}
 use Rattle.minimal.proofs.add_push.Statement.{statement}
 use Rattle.minimal.proofs.add_push.Tie as tie
 
--- what was tried, where it was, and the arguments
-abbrev tried : tie.After-slice-known6 → tie.After-extend-push
+-- what was tried, what is pushed, and the arguments
+abbrev tried : tie.After-slice-known4 → tie.After-extend-ops
 tried c = c .before .before .before .before
 
-abbrev one : tie.After-extend-push → tie.Else1
-one c = c .before .before .before .before
+abbrev made : tie.After-extend-ops → tie.After-push-bytes
+made c = c .before .before .before .before .before
 
-abbrev entry : tie.Else1 → tie.Start
+abbrev entry : tie.After-push-bytes → tie.Start
 entry c = c .before .before .before .before .before
 
--- the test said that it is one byte
-is-one : (c : tie.Else1) → OneByte (now (entry c .args .digits))
-is-one c = c .before .is-one-byte .ensures (not-false _ (c .if1 .left))
+leading-zeros-requires : tie.Need-leading-zeros-requires
+leading-zeros-requires c κs = search needs
 
-is-one-byte-requires : tie.Need-is-one-byte-requires
-is-one-byte-requires c κs = search needs
+push-bytes-requires : tie.Need-push-bytes-requires
+push-bytes-requires c κs = search needs
 
-add-scanned-requires : tie.Need-add-scanned-requires
-add-scanned-requires c κs = search needs
+add-end : tie.Need-add-end
+add-end c = search needs
+
+sub-extend-ops : tie.Need-sub-extend-ops
+sub-extend-ops c = search needs
+
+part-extend-ops-start : tie.Need-part-extend-ops-start
+part-extend-ops-start c = search needs
+
+part-extend-ops-end : tie.Need-part-extend-ops-end
+part-extend-ops-end c = search needs
+
+extend-ops-requires : tie.Need-extend-ops-requires
+extend-ops-requires c κs = search needs
 
 same-length : tie.Need-same-length
 same-length c = search needs
@@ -36,20 +55,35 @@ same-length c = search needs
 same-length-2 : tie.Need-same-length-2
 same-length-2 c = search needs
 
+-- what is pushed is the minimal push
+is-minimal : (c : tie.After-push-bytes)
+    → take (length (now (entry c .args .digits)) + 1 - c .before .leading-zeros .result .zeros) (drop (c .before .leading-zeros .result .zeros) (c .push-bytes .result))
+    ≡ minimalPush (number (now (entry c .args .digits)))
+is-minimal c =
+    let scanned = c .before in
+    let known = scanned .before in
+    let digits = now (entry c .args .digits) in
+    let all : AllBytes digits = λ i. omega (arith, known .shared-slice-known .given i) in
+    c .push-bytes .ensures .1 ∙ minimal-of digits (scanned .leading-zeros .result .zeros) (entry c .pre) all (scanned .leading-zeros .ensures .0)
+
 returns : tie.Need-returns
-returns c = c .before .before .before .before .add-scanned .ensures
+returns c =
+    let t = tried (c .before) in
+    let a = entry (made t) .args in
+    add-same wordsPerSection _ (ops (minimalPush (number (now (a .digits))))) (storeIn (a .state) (now (a .bytes)) (now (a .words))) _ _ _
+    (ap ops (is-minimal (made t))) (t .extend-ops .ensures .done (c .if1 .taken))
 
-sub-extend-push : tie.Need-sub-extend-push
-sub-extend-push c = search needs
+sub-add-bytes : tie.Need-sub-add-bytes
+sub-add-bytes c = search needs
 
-shared-slice-read-extend-push : tie.Need-shared-slice-read-extend-push
-shared-slice-read-extend-push c = omega (arith, is-one (c .before .before .before) .0)
+part-add-bytes-start : tie.Need-part-add-bytes-start
+part-add-bytes-start c = search needs
 
-cast-extend-push : tie.Need-cast-extend-push
-cast-extend-push c = omega (arith, c .shared-slice-known2 .given 31)
+part-add-bytes-end : tie.Need-part-add-bytes-end
+part-add-bytes-end c = search needs
 
-extend-push-requires : tie.Need-extend-push-requires
-extend-push-requires c κs = search needs
+add-bytes-requires : tie.Need-add-bytes-requires
+add-bytes-requires c κs = search needs
 
 same-length-3 : tie.Need-same-length-3
 same-length-3 c = search needs
@@ -59,45 +93,32 @@ same-length-4 c = search needs
 
 returns-2 : tie.Need-returns-2
 returns-2 c =
-    let t = tried (c .before) in
-    let a = entry (one t) .args in
-    word-tried (now (a .digits)) (is-one (one t)) (t .extend-push .ensures) .done (c .if2 .taken)
-
-add-scanned-requires-2 : tie.Need-add-scanned-requires-2
-add-scanned-requires-2 c κs = search needs
-
-same-length-5 : tie.Need-same-length-5
-same-length-5 c = search needs
-
-same-length-6 : tie.Need-same-length-6
-same-length-6 c = search needs
-
-returns-3 : tie.Need-returns-3
-returns-3 c =
     let judged = c .before .before .before .before in
-    let left = judged .before .before .before in
+    let left = judged .before .before .before .before .before in
     let t = tried (left .before) in
-    let a = entry (one t) .args in
-    add-judged (a .state) (now (a .bytes)) (now (a .words)) _ (word-tried (now (a .digits)) (is-one (one t)) (t .extend-push .ensures))
-    (left .if2 .left) (judged .add-scanned2 .ensures)
+    let a = entry (made t) .args in
+    add-same wordsPerSection _ (ops (minimalPush (number (now (a .digits))))) (storeIn (a .state) (now (a .bytes)) (now (a .words))) _ _ _
+    (ap ops (is-minimal (made t)))
+    (add-judged (a .state) (now (a .bytes)) (now (a .words)) _ (t .extend-ops .ensures) (left .if1 .left) (judged .add-bytes .ensures))
 
 pub add-push-spec : {M : Type 1} → statement M
 add-push-spec =
     tie.close
     (tie.spec
-    is-one-byte-requires
-    add-scanned-requires
+    leading-zeros-requires
+    push-bytes-requires
+    add-end
+    sub-extend-ops
+    part-extend-ops-start
+    part-extend-ops-end
+    extend-ops-requires
     same-length
     same-length-2
     returns
-    sub-extend-push
-    shared-slice-read-extend-push
-    cast-extend-push
-    extend-push-requires
+    sub-add-bytes
+    part-add-bytes-start
+    part-add-bytes-end
+    add-bytes-requires
     same-length-3
     same-length-4
-    returns-2
-    add-scanned-requires-2
-    same-length-5
-    same-length-6
-    returns-3)
+    returns-2)

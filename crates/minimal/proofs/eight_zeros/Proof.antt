@@ -210,7 +210,7 @@ add-result-8 c =
 returns : tie.Need-returns
 returns c e =
     let start = c .before .before .before .before .before .before .before .before in
-    eight (now (start .args .digits)) (start .args .at) (eqb-true _ 0 e)
+    eight (now (start .args .word)) (start .args .at) (eqb-true _ 0 e)
 
 pub eight-zeros-spec : {M : Type 1} → statement M
 eight-zeros-spec =

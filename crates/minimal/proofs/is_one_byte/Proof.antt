@@ -41,10 +41,10 @@ returns-5 c e =
     let second = third .before .before in
     let first = second .before .before in
     let start = first .before .before .before .before in
-    let digits = now (start .args .digits) in
-    let to-16 = join digits 0 8 8 8 (omega arith) (first .before .eight-zeros .ensures (not-false _ (first .if2 .left))) (second .before .eight-zeros2 .ensures (not-false _ (second .if3 .left))) in
-    let to-24 = join digits 0 16 16 8 (omega arith) to-16 (third .before .eight-zeros3 .ensures (not-false _ (third .if4 .left))) in
-    (first .before .before .if1 .left, join digits 0 24 23 8 (omega arith) to-24 (c .eight-zeros4 .ensures e))
+    let word = now (start .args .word) in
+    let to-16 = join word 0 8 8 8 (omega arith) (first .before .eight-zeros .ensures (not-false _ (first .if2 .left))) (second .before .eight-zeros2 .ensures (not-false _ (second .if3 .left))) in
+    let to-24 = join word 0 16 16 8 (omega arith) to-16 (third .before .eight-zeros3 .ensures (not-false _ (third .if4 .left))) in
+    (first .before .before .if1 .left, join word 0 24 23 8 (omega arith) to-24 (c .eight-zeros4 .ensures e))
 
 pub is-one-byte-spec : {M : Type 1} → statement M
 is-one-byte-spec =
