@@ -2,12 +2,20 @@
 use Prim.Native.Nat.{ℕ, zero, suc, min, _≤_, _<_}
 use native.Mathlib.Omega.{arith}
 use mathlib.Core.Path.{_≡_, refl, ap, _∙_}
-use mathlib.Core.Bool.{Bool, true, false, cond}
 use mathlib.Core.List.{List, [], _∷_}
 use lib.ListN.{length, getD}
-use lib.Dec.{eqb}
-use borrow.Author.Tests.{eqb-true, eqb-false}
+use borrow.Author.Tests.{ne-eqb}
 use Rattle.minimal.specs.Zeros.{LeadingZeros, looked}
+
+-- a zero is looked at, and then the next byte
+looked-zero : (bs : List ℕ) → looked (0 ∷ bs) ≡ suc (looked bs)
+unfolding looked
+looked-zero bs = refl
+
+-- another byte is the last one
+looked-other : (b : ℕ) (bs : List ℕ) → (b ≡ 0 → ⊥) → looked (b ∷ bs) ≡ 1
+unfolding looked
+looked-other b bs other = rw (ne-eqb b 0 other)
 
 -- the zeros of what follows a first byte of them
 rest : (b : ℕ) (bs : List ℕ) (r : ℕ) → LeadingZeros (b ∷ bs) (suc r) → LeadingZeros bs r
@@ -17,13 +25,14 @@ rest b bs r z = record { within = omega (arith, z .within); zeros = λ i l. z .z
 pub looked-bytes : (bs : List ℕ) (r : ℕ) → LeadingZeros bs r → looked bs ≡ min (suc r) (length bs)
 unfolding looked
 looked-bytes [] r z = omega arith
-looked-bytes (b ∷ bs) zero z = go (eqb b 0) refl
-  where
-    go : (t : Bool) → eqb b 0 ≡ t → suc (cond t (looked bs) 0) ≡ min 1 (suc (length bs))
-    go true e = absurd (z .ends (omega arith) (eqb-true b 0 e))
-    go false e = omega arith
-looked-bytes (b ∷ bs) (suc r) z = go (eqb b 0) refl (looked-bytes bs r (rest b bs r z))
-  where
-    go : (t : Bool) → eqb b 0 ≡ t → looked bs ≡ min (suc r) (length bs) → suc (cond t (looked bs) 0) ≡ min (suc (suc r)) (suc (length bs))
-    go true e same = omega (arith, same)
-    go false e same = absurd (eqb-false b 0 e (z .zeros 0 (omega arith)))
+looked-bytes (b ∷ bs) zero z = looked-other b bs (λ e. z .ends (omega arith) e) ∙ omega arith
+looked-bytes (b ∷ bs) (suc r) z =
+    let after : looked bs ≡ min (suc r) (length bs) = looked-bytes bs r (rest b bs r z) in
+    ap (λ (x : ℕ). looked (x ∷ bs)) (z .zeros 0 (omega arith)) ∙ looked-zero bs ∙ omega (arith, after)
+
+not-before : (bs : List ℕ) (r s : ℕ) → LeadingZeros bs r → LeadingZeros bs s → r < s → ⊥
+not-before bs r s a b l = a .ends (omega (arith, b .within)) (b .zeros r l)
+
+-- a list begins with one count of zeros
+pub zeros-same : (bs : List ℕ) (r s : ℕ) → LeadingZeros bs r → LeadingZeros bs s → r ≡ s
+zeros-same bs r s a b = omega (arith, not-before bs r s a b, not-before bs s r b a)
