@@ -75,6 +75,7 @@ CASES: list[tuple] = [
      ["refused 4 at 0 passes 0", "bytes a5"], ["stored 2 1", "bytes 00"], dict(bytes=1)),
     (18, "mark 0, a run of 2 op bytes, slices of one byte and three words", [mark(0), run(2, RISING)], ["refused 5 at 0 passes 0"], ["stored 2 2"], dict(bytes=1, words=3)),
     (19, "mark 0, entry 0 of the table 1, a write", [mark(0), (19, 0, 1), (29, 0, 0)], ["refused 16 at 0 passes 0"], ["length 0 passes ?"]),
+    (20, "the scan of no byte", [(13, 0, 0)], ["zeros 0 looked 0"], ["?"]),
     (0, "line 11, N = 1,022", [*line_11(1022, 61449), ASSEMBLE], ["length 66558 passes 1024"], ["length 66558 passes ?"]),
 ]  # fmt: skip
 

@@ -2,8 +2,8 @@
 use Prim.Native.Nat.{ℕ, zero, suc, min, _≤_, _<_}
 use native.Mathlib.Omega.{arith}
 use mathlib.Core.Path.{_≡_, refl, ap, _∙_}
-use mathlib.Core.List.{List, [], _∷_}
-use lib.ListN.{length, getD}
+use mathlib.Core.List.{List, [], _∷_, _++_}
+use lib.ListN.{length, getD, replicate}
 use borrow.Author.Tests.{ne-eqb}
 use Rattle.minimal.specs.Zeros.{LeadingZeros, looked}
 
@@ -36,3 +36,13 @@ not-before bs r s a b l = a .ends (omega (arith, b .within)) (b .zeros r l)
 -- a list begins with one count of zeros
 pub zeros-same : (bs : List ℕ) (r s : ℕ) → LeadingZeros bs r → LeadingZeros bs s → r ≡ s
 zeros-same bs r s a b = omega (arith, not-before bs r s a b, not-before bs s r b a)
+
+-- a zero word: all 32
+pub zero-word : looked (replicate 32 0) ≡ 32
+unfolding looked
+zero-word = refl
+
+-- an address: 12 zeros, and then a byte that isn't
+pub address : (b : ℕ) (bs : List ℕ) → (b ≡ 0 → ⊥) → looked (replicate 12 0 ++ (b ∷ bs)) ≡ 13
+unfolding looked
+address b bs other = rw (ne-eqb b 0 other)
