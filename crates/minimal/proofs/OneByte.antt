@@ -13,7 +13,7 @@ use borrow.Author.Tests.{ltb-true, ltb-false}
 use Rattle.units.specs.Numbers.{number, numberAfter}
 use Rattle.units.proofs.BigEndian.{number-drop}
 use Rattle.records.specs.Store.{Store}
-use Rattle.records.specs.Sections.{ops}
+use Rattle.records.specs.Sections.{Section, ops}
 use Rattle.calls.specs.Calls.{minimalPush}
 use Rattle.short.specs.Tried.{TriedSection}
 use Rattle.minimal.specs.OneByte.{ZerosFrom, OneByte}
@@ -55,8 +55,11 @@ one-byte bs h =
     let one : drop 31 bs ≡ last ∷ [] = drop-cons bs 31 0 (omega (arith, h .0)) ∙ ap (λ (x : List ℕ). last ∷ x) (drop-of-length-le bs {i = 32} (omega (arith, h .0))) in
     sym (number-drop 31 bs (λ i l. h .1 i (omega arith) (omega arith))) ∙ ap number one ∙ number-one last
 
--- what was tried of the byte was tried of the word
-pub word-tried : (digits : List ℕ) → OneByte digits → {st : Store} {tried : ℕ} {bs ws : List ℕ}
-    → TriedSection (ops (minimalPush (getD digits 31 0))) st tried bs ws → TriedSection (ops (minimalPush (number digits))) st tried bs ws
-word-tried digits h {st = st} {tried = tried} {bs = bs} {ws = ws} t =
-    subst (λ (v : ℕ). TriedSection (ops (minimalPush v)) st tried bs ws) (sym (one-byte digits h)) t
+-- what was tried of a section was tried of its equal
+pub tried-same : {s t : Section} → s ≡ t → {st : Store} {tried : ℕ} {bs ws : List ℕ} → TriedSection s st tried bs ws → TriedSection t st tried bs ws
+tried-same e {st = st} {tried = tried} {bs = bs} {ws = ws} h = subst (λ (x : Section). TriedSection x st tried bs ws) e h
+
+-- of the byte, and so of the word
+pub word-tried : (word : List ℕ) → OneByte word → {st : Store} {tried : ℕ} {bs ws : List ℕ}
+    → TriedSection (ops (minimalPush (getD word 31 0))) st tried bs ws → TriedSection (ops (minimalPush (number word))) st tried bs ws
+word-tried word h = tried-same (ap (λ (v : ℕ). ops (minimalPush v)) (sym (one-byte word h)))

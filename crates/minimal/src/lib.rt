@@ -42,11 +42,14 @@ pub fn push_minimal_u256(state: u64, bytes: &mut [u8], words: &mut [u32], word: 
     if word.len() != WORD {
         return refusal_number(Refusal::BadWord);
     }
-    let tried = extend_one_byte(state, bytes, words, word);
+    if !is_one_byte(word) {
+        return add_word(state, bytes, words, &word[..]);
+    }
+    let tried = short::extend_push(state, bytes, words, word[WORD - 1] as u64);
     if tried != 0 {
         return tried;
     }
-    add_push(state, bytes, words, &word[..])
+    add_word(state, bytes, words, &word[..])
 }
 
 // Pushes a number. Refusals: 6, 4, 5.
@@ -107,26 +110,41 @@ fn add_push(state: u64, bytes: &mut [u8], words: &mut [u32], digits: &[u8]) -> u
     let zeros = leading_zeros(digits).zeros;
     let push = push_bytes(digits, zeros);
     let end = digits.len() + 1;
-    let tried = short::extend_ops(state, bytes, words, &push[zeros..end]);
-    if tried != 0 {
-        return tried;
-    }
     add_bytes(state, bytes, words, BytesKind::Ops, &push[zeros..end])
 }
 
-// The minimal push of a word below 256 that extends a last Ops section. Such a word isn't scanned: reading its zeros would take longer than
-// all the rest.
-fn extend_one_byte(state: u64, bytes: &mut [u8], words: &mut [u32], word: &[u8]) -> u64
+// Adds the minimal push of a word, at once where it extends a last Ops section. Too large to be inlined, and called twice, it stays a
+// function of its own.
+fn add_word(state: u64, bytes: &mut [u8], words: &mut [u32], word: &[u8]) -> u64
+    requires { ⌜ length (now word) ≤ 32 ⌝ }
+    ensures reply { λ r. ⌜ r ≡ builtNumber (addReply wordsPerSection (ops (minimalPush (number (now (word .entry)))))
+        (storeIn state (now (bytes .entry)) (now (words .entry)))) ⌝ }
+    ensures bytes { λ _. ⌜ now (bytes .exit) ≡ addAfter wordsPerSection (ops (minimalPush (number (now (word .entry)))))
+        (storeIn state (now (bytes .entry)) (now (words .entry))) .bytes ⌝ }
+    ensures words { λ _. ⌜ now (words .exit) ≡ addAfter wordsPerSection (ops (minimalPush (number (now (word .entry)))))
+        (storeIn state (now (bytes .entry)) (now (words .entry))) .words ⌝ }
+{
+    let tried = extend_word(state, bytes, words, word);
+    if tried != 0 {
+        return tried;
+    }
+    add_push(state, bytes, words, word)
+}
+
+// The minimal push of a word that extends a last Ops section.
+fn extend_word(state: u64, bytes: &mut [u8], words: &mut [u32], word: &[u8]) -> u64
+    requires { ⌜ length (now word) ≤ 32 ⌝ }
     ensures { λ r. ⌜ TriedSection (ops (minimalPush (number (now (word .entry))))) (storeIn state (now (bytes .entry)) (now (words .entry))) r
         (now (bytes .exit)) (now (words .exit)) ⌝ }
 {
-    if !is_one_byte(word) {
-        return 0;
-    }
-    short::extend_push(state, bytes, words, word[WORD - 1] as u64)
+    let zeros = leading_zeros(word).zeros;
+    let push = push_bytes(word, zeros);
+    let end = word.len() + 1;
+    short::extend_ops(state, bytes, words, &push[zeros..end])
 }
 
-// A word below 256, told by comparing eight bytes at a time, not by a scan.
+// A word below 256, told by comparing eight bytes at a time. Such a word isn't scanned: reading its zeros one by one would take longer than
+// the rest of the call.
 fn is_one_byte(word: &[u8]) -> bool
     ensures { λ r. ⌜ (r ≡ true → OneByte (now (word .entry))) ⌝ }
 {

@@ -4,27 +4,37 @@ use borrow.Author.Needs.{needs}
 use denote.Ref.{now}
 use mathlib.Core.Path.{refl, ap, _∙_}
 use mathlib.Core.Bool.{not}
-use borrow.Author.Tests.{eq-eqb, ne-eqb}
+use native.Mathlib.Omega.{arith}
+use borrow.Author.Tests.{eq-eqb, ne-eqb, not-false}
 use Rattle.records.specs.Store.{wordsPerSection}
 use Rattle.calls.specs.Calls.{pushMinimalU256}
 use Rattle.numbers.specs.Numbers.{storeIn}
 use Rattle.numbers.proofs.Adds.{push-bad-word}
 use Rattle.short.proofs.Judged.{Judged, pushed, push-judged}
+use Rattle.minimal.specs.OneByte.{OneByte}
+use Rattle.minimal.proofs.OneByte.{word-tried}
 use Rattle.minimal.proofs.push_minimal_u256.Statement.{statement}
 use Rattle.minimal.proofs.push_minimal_u256.Tie as tie
 
--- what was tried, of a whole word, and the arguments
-abbrev tried : tie.After-slice-known4 → tie.After-extend-one-byte
+-- what was tried, of one byte, of a whole word, and the arguments
+abbrev tried : tie.After-slice-known6 → tie.After-extend-push
 tried c = c .before .before .before .before
 
-abbrev whole : tie.After-extend-one-byte → tie.Else1
-whole c = c .before .before .before
+abbrev one : tie.After-extend-push → tie.Else2
+one c = c .before .before .before .before
+
+abbrev whole : tie.After-is-one-byte → tie.Else1
+whole c = c .before
 
 abbrev entry : tie.Else1 → tie.Start
 entry c = c .before .before .before .before
 
 is-good : (c : tie.Else1) → Judged (pushMinimalU256 (now (entry c .args .word)))
 is-good c = (refl, (ap not (eq-eqb _ _ (c .if1 .left)), refl))
+
+-- the test said that it is one byte
+is-one : (c : tie.Else2) → OneByte (now (entry (whole (c .before)) .args .word))
+is-one c = c .before .is-one-byte .ensures (not-false _ (c .if2 .left))
 
 refusal-number-requires : tie.Need-refusal-number-requires
 refusal-number-requires c κs = search needs
@@ -37,8 +47,11 @@ returns c =
     let all = push-bad-word wordsPerSection (pushMinimalU256 (now (a .word))) st refl (ap not (ne-eqb _ _ (bad .if1 .taken))) in
     (c .refusal-number .ensures ∙ all .0, all .1)
 
-extend-one-byte-requires : tie.Need-extend-one-byte-requires
-extend-one-byte-requires c κs = search needs
+is-one-byte-requires : tie.Need-is-one-byte-requires
+is-one-byte-requires c κs = search needs
+
+add-word-requires : tie.Need-add-word-requires
+add-word-requires c κs = search needs
 
 same-length : tie.Need-same-length
 same-length c = search needs
@@ -48,13 +61,22 @@ same-length-2 c = search needs
 
 returns-2 : tie.Need-returns-2
 returns-2 c =
-    let t = tried (c .before) in
-    let a = entry (whole t) .args in
-    pushed (a .state) (now (a .bytes)) (now (a .words)) (pushMinimalU256 (now (a .word))) (is-good (whole t)) refl
-    (t .extend-one-byte .ensures .done (c .if2 .taken))
+    let added = c .before .before .before .before in
+    let w = whole (added .before .before .before .before) in
+    let a = entry w .args in
+    pushed (a .state) (now (a .bytes)) (now (a .words)) (pushMinimalU256 (now (a .word))) (is-good w) refl (added .add-word .ensures)
 
-add-push-requires : tie.Need-add-push-requires
-add-push-requires c κs = search needs
+sub-extend-push : tie.Need-sub-extend-push
+sub-extend-push c = search needs
+
+shared-slice-read-extend-push : tie.Need-shared-slice-read-extend-push
+shared-slice-read-extend-push c = omega (arith, is-one (c .before .before .before) .0)
+
+cast-extend-push : tie.Need-cast-extend-push
+cast-extend-push c = omega (arith, c .shared-slice-known2 .given 31)
+
+extend-push-requires : tie.Need-extend-push-requires
+extend-push-requires c κs = search needs
 
 same-length-3 : tie.Need-same-length-3
 same-length-3 c = search needs
@@ -64,13 +86,31 @@ same-length-4 c = search needs
 
 returns-3 : tie.Need-returns-3
 returns-3 c =
+    let t = tried (c .before) in
+    let w = whole (one t .before) in
+    let a = entry w .args in
+    pushed (a .state) (now (a .bytes)) (now (a .words)) (pushMinimalU256 (now (a .word))) (is-good w) refl
+    (word-tried (now (a .word)) (is-one (one t)) (t .extend-push .ensures) .done (c .if3 .taken))
+
+add-word-requires-2 : tie.Need-add-word-requires-2
+add-word-requires-2 c κs = search needs
+
+same-length-5 : tie.Need-same-length-5
+same-length-5 c = search needs
+
+same-length-6 : tie.Need-same-length-6
+same-length-6 c = search needs
+
+returns-4 : tie.Need-returns-4
+returns-4 c =
     let judged = c .before .before .before .before in
     let left = judged .before .before .before in
     let t = tried (left .before) in
-    let a = entry (whole t) .args in
-    push-judged (a .state) (now (a .bytes)) (now (a .words)) (pushMinimalU256 (now (a .word))) (is-good (whole t)) refl
-    (t .extend-one-byte .ensures) (left .if2 .left)
-    (judged .add-push .ensures)
+    let w = whole (one t .before) in
+    let a = entry w .args in
+    push-judged (a .state) (now (a .bytes)) (now (a .words)) (pushMinimalU256 (now (a .word))) (is-good w) refl
+    (word-tried (now (a .word)) (is-one (one t)) (t .extend-push .ensures)) (left .if3 .left)
+    (judged .add-word2 .ensures)
 
 pub push-minimal-u256-spec : {M : Type 1} → statement M
 push-minimal-u256-spec =
@@ -78,11 +118,19 @@ push-minimal-u256-spec =
     (tie.spec
     refusal-number-requires
     returns
-    extend-one-byte-requires
+    is-one-byte-requires
+    add-word-requires
     same-length
     same-length-2
     returns-2
-    add-push-requires
+    sub-extend-push
+    shared-slice-read-extend-push
+    cast-extend-push
+    extend-push-requires
     same-length-3
     same-length-4
-    returns-3)
+    returns-3
+    add-word-requires-2
+    same-length-5
+    same-length-6
+    returns-4)
