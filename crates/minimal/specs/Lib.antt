@@ -1,2 +1,2 @@
-pub mod OneByte
+pub mod Below256
 pub mod Zeros

@@ -17,9 +17,8 @@ ghost use Rattle.calls.specs.Calls.{minimalPush, pushMinimalU256, pushMinimalU6
 ghost use Rattle.calls.specs.Calls.{pushReply, pushAfter};
 ghost use Rattle.numbers.specs.Numbers.{storeIn, builtNumber};
 ghost use mathlib.Core.Bool.{true};
-ghost use Rattle.short.specs.Tried.{TriedSection};
 ghost use Rattle.minimal.specs.Zeros.{LeadingZeros, looked};
-ghost use Rattle.minimal.specs.OneByte.{OneByte, ZerosFrom};
+ghost use Rattle.minimal.specs.Below256.{Below256, ZerosFrom};
 
 // The bytes of a word.
 const WORD: usize = 32;
@@ -42,7 +41,8 @@ pub fn push_minimal_u256(state: u64, bytes: &mut [u8], words: &mut [u32], word: 
     if word.len() != WORD {
         return refusal_number(Refusal::BadWord);
     }
-    if !is_one_byte(word) {
+    // Taken anew: lent on as it is, the word would be copied into memory on the way for small words too.
+    if !is_below_256(word) {
         return add_word(state, bytes, words, &word[..]);
     }
     let tried = short::extend_push(state, bytes, words, word[WORD - 1] as u64);
@@ -113,8 +113,8 @@ fn add_push(state: u64, bytes: &mut [u8], words: &mut [u32], digits: &[u8]) -> u
     add_bytes(state, bytes, words, BytesKind::Ops, &push[zeros..end])
 }
 
-// Adds the minimal push of a word, at once where it extends a last Ops section. Too large to be inlined, and called twice, it stays a
-// function of its own.
+// Adds the minimal push of a word by the scan, at once where it extends a last Ops section. Too large to be inlined, and called twice, it
+// stays a function of its own. A number needs no such try: it was tried before `add_number`.
 fn add_word(state: u64, bytes: &mut [u8], words: &mut [u32], word: &[u8]) -> u64
     requires { ⌜ length (now word) ≤ 32 ⌝ }
     ensures reply { λ r. ⌜ r ≡ builtNumber (addReply wordsPerSection (ops (minimalPush (number (now (word .entry)))))
@@ -124,29 +124,20 @@ fn add_word(state: u64, bytes: &mut [u8], words: &mut [u32], word: &[u8]) -> u64
     ensures words { λ _. ⌜ now (words .exit) ≡ addAfter wordsPerSection (ops (minimalPush (number (now (word .entry)))))
         (storeIn state (now (bytes .entry)) (now (words .entry))) .words ⌝ }
 {
-    let tried = extend_word(state, bytes, words, word);
-    if tried != 0 {
-        return tried;
-    }
-    add_push(state, bytes, words, word)
-}
-
-// The minimal push of a word that extends a last Ops section.
-fn extend_word(state: u64, bytes: &mut [u8], words: &mut [u32], word: &[u8]) -> u64
-    requires { ⌜ length (now word) ≤ 32 ⌝ }
-    ensures { λ r. ⌜ TriedSection (ops (minimalPush (number (now (word .entry))))) (storeIn state (now (bytes .entry)) (now (words .entry))) r
-        (now (bytes .exit)) (now (words .exit)) ⌝ }
-{
     let zeros = leading_zeros(word).zeros;
     let push = push_bytes(word, zeros);
     let end = word.len() + 1;
-    short::extend_ops(state, bytes, words, &push[zeros..end])
+    let tried = short::extend_ops(state, bytes, words, &push[zeros..end]);
+    if tried != 0 {
+        return tried;
+    }
+    add_bytes(state, bytes, words, BytesKind::Ops, &push[zeros..end])
 }
 
-// A word below 256, told by comparing eight bytes at a time. Such a word isn't scanned: reading its zeros one by one would take longer than
-// the rest of the call.
-fn is_one_byte(word: &[u8]) -> bool
-    ensures { λ r. ⌜ (r ≡ true → OneByte (now (word .entry))) ⌝ }
+// True only of a word below 256: its first 31 bytes are compared eight and four at a time. Where such a word extends a last Ops section, it
+// isn't scanned: reading its zeros one by one would take longer than the rest of the call.
+fn is_below_256(word: &[u8]) -> bool
+    ensures { λ r. ⌜ (r ≡ true → Below256 (now (word .entry))) ⌝ }
 {
     if word.len() != WORD {
         return false;
@@ -160,10 +151,13 @@ fn is_one_byte(word: &[u8]) -> bool
     if !eight_zeros(word, 16) {
         return false;
     }
-    eight_zeros(word, 23)
+    if !four_zeros(word, 24) {
+        return false;
+    }
+    four_zeros(word, 27)
 }
 
-// Eight bytes from a place on are all 0: compiled to one comparison.
+// True only of eight zeros from a place on: one comparison of eight bytes when compiled.
 fn eight_zeros(word: &[u8], at: usize) -> bool
     requires { ⌜ at + 8 ≤ length (now word) ⌝ }
     ensures { λ r. ⌜ (r ≡ true → ZerosFrom (now (word .entry)) at 8) ⌝ }
@@ -177,6 +171,21 @@ fn eight_zeros(word: &[u8], at: usize) -> bool
         + (word[at + 5] as u64) * 0x1_0000
         + (word[at + 6] as u64) * 0x100
         + (word[at + 7] as u64);
+    if all != 0 {
+        return false;
+    }
+    true
+}
+
+// True only of four zeros from a place on.
+fn four_zeros(word: &[u8], at: usize) -> bool
+    requires { ⌜ at + 4 ≤ length (now word) ⌝ }
+    ensures { λ r. ⌜ (r ≡ true → ZerosFrom (now (word .entry)) at 4) ⌝ }
+{
+    let all = (word[at] as u64) * 0x100_0000
+        + (word[at + 1] as u64) * 0x1_0000
+        + (word[at + 2] as u64) * 0x100
+        + (word[at + 3] as u64);
     if all != 0 {
         return false;
     }

@@ -1,4 +1,4 @@
--- Zeros from a place on, and the number that a word of one byte is. Assumes nothing.
+-- Zeros from a place on, and the number that a word of 31 zeros and a byte is. Assumes nothing.
 use Prim.Native.Nat.{ℕ, _+_, _≤_, _<_}
 use native.Mathlib.Omega.{arith}
 use native.Mathlib.Nat.{add-zero, eq-or-lt-of-le}
@@ -13,11 +13,12 @@ use borrow.Author.Tests.{ltb-true, ltb-false}
 use Rattle.units.specs.Numbers.{number, numberAfter}
 use Rattle.units.proofs.BigEndian.{number-drop}
 use Rattle.records.specs.Store.{Store}
-use Rattle.records.specs.Sections.{Section, ops}
+use Rattle.records.specs.Sections.{ops}
 use Rattle.calls.specs.Calls.{minimalPush}
 use Rattle.short.specs.Tried.{TriedSection}
-use Rattle.minimal.specs.OneByte.{ZerosFrom, OneByte}
+use Rattle.minimal.specs.Below256.{ZerosFrom, Below256}
 
+-- no zero
 none : (bs : List ℕ) (at : ℕ) → ZerosFrom bs at 0
 none bs at i l h = absurd (omega arith)
 
@@ -26,15 +27,16 @@ more : (bs : List ℕ) (at count : ℕ) → ZerosFrom bs at count → getD bs (a
 more bs at count z e i l h =
     ⊎-elim (λ (d : i ≡ at + count). subst (λ (j : ℕ). getD bs j 0 ≡ 0) (sym d) e) (λ (d : i < at + count). z i l d) (eq-or-lt-of-le (omega arith))
 
--- eight of them
-pub eight : (bs : List ℕ) (at : ℕ) → getD bs at 0 ≡ 0 → getD bs (at + 1) 0 ≡ 0 → getD bs (at + 2) 0 ≡ 0 → getD bs (at + 3) 0 ≡ 0
-    → getD bs (at + 4) 0 ≡ 0 → getD bs (at + 5) 0 ≡ 0 → getD bs (at + 6) 0 ≡ 0 → getD bs (at + 7) 0 ≡ 0 → ZerosFrom bs at 8
-eight bs at e0 e1 e2 e3 e4 e5 e6 e7 =
+-- four of them
+pub four : (bs : List ℕ) (at : ℕ) → getD bs at 0 ≡ 0 → getD bs (at + 1) 0 ≡ 0 → getD bs (at + 2) 0 ≡ 0 → getD bs (at + 3) 0 ≡ 0 → ZerosFrom bs at 4
+four bs at e0 e1 e2 e3 =
     let first : getD bs (at + 0) 0 ≡ 0 = ap (λ (j : ℕ). getD bs j 0) (add-zero at) ∙ e0 in
-    let two = more bs at 1 (more bs at 0 (none bs at) first) e1 in
-    let four = more bs at 3 (more bs at 2 two e2) e3 in
-    let six = more bs at 5 (more bs at 4 four e4) e5 in
-    more bs at 7 (more bs at 6 six e6) e7
+    more bs at 3 (more bs at 2 (more bs at 1 (more bs at 0 (none bs at) first) e1) e2) e3
+
+-- and four more
+pub eight : (bs : List ℕ) (at : ℕ) → ZerosFrom bs at 4 → getD bs (at + 4) 0 ≡ 0 → getD bs (at + 5) 0 ≡ 0 → getD bs (at + 6) 0 ≡ 0
+    → getD bs (at + 7) 0 ≡ 0 → ZerosFrom bs at 8
+eight bs at z e4 e5 e6 e7 = more bs at 7 (more bs at 6 (more bs at 5 (more bs at 4 z e4) e5) e6) e7
 
 -- zeros that begin where others end, or before
 pub join : (bs : List ℕ) (a m b n : ℕ) → b ≤ a + m → ZerosFrom bs a m → ZerosFrom bs b n → (i : ℕ) → a ≤ i → i < b + n → getD bs i 0 ≡ 0
@@ -44,22 +46,20 @@ join bs a m b n within first then i l h = go (ltb i (a + m)) refl
     go true e = first i l (ltb-true i (a + m) e)
     go false e = then i (omega (arith, ltb-false i (a + m) e)) h
 
+-- one byte as a number
 number-one : (b : ℕ) → number (b ∷ []) ≡ b
 unfolding number numberAfter
 number-one b = omega arith
 
--- it is its last byte
-one-byte : (bs : List ℕ) → OneByte bs → number bs ≡ getD bs 31 0
-one-byte bs h =
+-- a word below 256 is its last byte
+last-byte : (bs : List ℕ) → Below256 bs → number bs ≡ getD bs 31 0
+last-byte bs h =
     let last : ℕ = getD bs 31 0 in
     let one : drop 31 bs ≡ last ∷ [] = drop-cons bs 31 0 (omega (arith, h .0)) ∙ ap (λ (x : List ℕ). last ∷ x) (drop-of-length-le bs {i = 32} (omega (arith, h .0))) in
     sym (number-drop 31 bs (λ i l. h .1 i (omega arith) (omega arith))) ∙ ap number one ∙ number-one last
 
--- what was tried of a section was tried of its equal
-pub tried-same : {s t : Section} → s ≡ t → {st : Store} {tried : ℕ} {bs ws : List ℕ} → TriedSection s st tried bs ws → TriedSection t st tried bs ws
-tried-same e {st = st} {tried = tried} {bs = bs} {ws = ws} h = subst (λ (x : Section). TriedSection x st tried bs ws) e h
-
--- of the byte, and so of the word
-pub word-tried : (word : List ℕ) → OneByte word → {st : Store} {tried : ℕ} {bs ws : List ℕ}
+-- what was tried of the byte was tried of the word
+pub word-tried : (word : List ℕ) → Below256 word → {st : Store} {tried : ℕ} {bs ws : List ℕ}
     → TriedSection (ops (minimalPush (getD word 31 0))) st tried bs ws → TriedSection (ops (minimalPush (number word))) st tried bs ws
-word-tried word h = tried-same (ap (λ (v : ℕ). ops (minimalPush v)) (sym (one-byte word h)))
+word-tried word h {st = st} {tried = tried} {bs = bs} {ws = ws} t =
+    subst (λ (v : ℕ). TriedSection (ops (minimalPush v)) st tried bs ws) (sym (last-byte word h)) t

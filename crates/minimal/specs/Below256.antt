@@ -1,4 +1,4 @@
--- A word of one byte: what the test before the scan finds, `is_one_byte`. Assumes nothing.
+-- What the test before the scan of a word finds, `is_below_256`. Assumes nothing.
 use Prim.Native.Nat.{ℕ, _+_, _≤_, _<_}
 use mathlib.Core.Path.{_≡_}
 use mathlib.Core.List.{List}
@@ -9,5 +9,5 @@ abbrev pub ZerosFrom : List ℕ → ℕ → ℕ → Type 0
 ZerosFrom bs at count = (i : ℕ) → at ≤ i → i < at + count → getD bs i 0 ≡ 0
 
 -- 32 bytes, of which the first 31 are 0
-abbrev pub OneByte : List ℕ → Type 0
-OneByte bs = (length bs ≡ 32) × ZerosFrom bs 0 31
+abbrev pub Below256 : List ℕ → Type 0
+Below256 bs = (length bs ≡ 32) × ZerosFrom bs 0 31

@@ -1,4 +1,4 @@
--- Four parts of eight bytes have every byte but the last.
+-- Five parts have every byte but the last.
 -- Assumes nothing.
 use borrow.Author.Needs.{needs}
 use native.Mathlib.Omega.{arith}
@@ -7,9 +7,9 @@ use mathlib.Core.Path.{refl}
 use mathlib.Core.Bool.{false}
 use borrow.Author.Tests.{not-false}
 use Rattle.slices.proofs.Tests.{clash}
-use Rattle.minimal.proofs.OneByte.{join}
-use Rattle.minimal.proofs.is_one_byte.Statement.{statement}
-use Rattle.minimal.proofs.is_one_byte.Tie as tie
+use Rattle.minimal.proofs.Below256.{join}
+use Rattle.minimal.proofs.is_below_256.Statement.{statement}
+use Rattle.minimal.proofs.is_below_256.Tie as tie
 
 returns : tie.Need-returns
 returns c e = clash false e refl
@@ -32,22 +32,31 @@ eight-zeros-requires-3 c κs = search needs
 returns-4 : tie.Need-returns-4
 returns-4 c e = clash false e refl
 
-eight-zeros-requires-4 : tie.Need-eight-zeros-requires-4
-eight-zeros-requires-4 c κs = search needs
+four-zeros-requires : tie.Need-four-zeros-requires
+four-zeros-requires c κs = search needs
 
 returns-5 : tie.Need-returns-5
-returns-5 c e =
-    let third = c .before in
+returns-5 c e = clash false e refl
+
+four-zeros-requires-2 : tie.Need-four-zeros-requires-2
+four-zeros-requires-2 c κs = search needs
+
+returns-6 : tie.Need-returns-6
+returns-6 c e =
+    let fourth = c .before in
+    let third = fourth .before .before in
     let second = third .before .before in
     let first = second .before .before in
     let start = first .before .before .before .before in
     let word = now (start .args .word) in
-    let to-16 = join word 0 8 8 8 (omega arith) (first .before .eight-zeros .ensures (not-false _ (first .if2 .left))) (second .before .eight-zeros2 .ensures (not-false _ (second .if3 .left))) in
+    let to-16 = join word 0 8 8 8 (omega arith) (first .before .eight-zeros .ensures (not-false _ (first .if2 .left)))
+    (second .before .eight-zeros2 .ensures (not-false _ (second .if3 .left))) in
     let to-24 = join word 0 16 16 8 (omega arith) to-16 (third .before .eight-zeros3 .ensures (not-false _ (third .if4 .left))) in
-    (first .before .before .if1 .left, join word 0 24 23 8 (omega arith) to-24 (c .eight-zeros4 .ensures e))
+    let to-28 = join word 0 24 24 4 (omega arith) to-24 (fourth .before .four-zeros .ensures (not-false _ (fourth .if5 .left))) in
+    (first .before .before .if1 .left, join word 0 28 27 4 (omega arith) to-28 (c .four-zeros2 .ensures e))
 
-pub is-one-byte-spec : {M : Type 1} → statement M
-is-one-byte-spec =
+pub is-below-256-spec : {M : Type 1} → statement M
+is-below-256-spec =
     tie.close
     (tie.spec
     returns
@@ -57,5 +66,7 @@ is-one-byte-spec =
     returns-3
     eight-zeros-requires-3
     returns-4
-    eight-zeros-requires-4
-    returns-5)
+    four-zeros-requires
+    returns-5
+    four-zeros-requires-2
+    returns-6)
