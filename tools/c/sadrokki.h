@@ -28,7 +28,7 @@
 #define SADROKKI_MID(answer) ((uint32_t)((answer) >> 32 & 0xffffff))
 #define SADROKKI_LOW(answer) ((uint32_t)(answer))
 #define SADROKKI_ZEROS(answer) ((answer) / 2)
-#define SADROKKI_LOOKED(answer) ((answer) - (answer) / 2)
+#define SADROKKI_LOOKED(answer) (((answer) + 1) / 2)
 #define SADROKKI_PUSHED 8
 
 #ifdef __cplusplus

@@ -30,6 +30,7 @@ looked-bytes (b ∷ bs) (suc r) z =
     let after : looked bs ≡ min (suc r) (length bs) = looked-bytes bs r (rest b bs r z) in
     ap (λ (x : ℕ). looked (x ∷ bs)) (z .zeros 0 (omega arith)) ∙ looked-zero bs ∙ omega (arith, after)
 
+-- no other count is smaller
 not-before : (bs : List ℕ) (r s : ℕ) → LeadingZeros bs r → LeadingZeros bs s → r < s → ⊥
 not-before bs r s a b l = a .ends (omega (arith, b .within)) (b .zeros r l)
 
@@ -42,7 +43,7 @@ pub zero-word : looked (replicate 32 0) ≡ 32
 unfolding looked
 zero-word = refl
 
--- an address: 12 zeros, and then a byte that isn't
+-- an address as a word, its first byte not 0: 12 zeros, and then that byte
 pub address : (b : ℕ) (bs : List ℕ) → (b ≡ 0 → ⊥) → looked (replicate 12 0 ++ (b ∷ bs)) ≡ 13
 unfolding looked
 address b bs other = rw (ne-eqb b 0 other)

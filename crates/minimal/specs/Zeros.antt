@@ -1,4 +1,4 @@
--- What the scan of a number's bytes finds: the function `leading_zeros` is equated with it. Assumes nothing.
+-- What the scan of a number's bytes finds, `leading_zeros`, and how many bytes it looks at. Assumes nothing.
 use Prim.Native.Nat.{ℕ, suc, _≤_, _<_}
 use mathlib.Core.Path.{_≡_}
 use mathlib.Core.Bool.{cond}

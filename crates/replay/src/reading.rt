@@ -1,4 +1,4 @@
-// The steps that read a store, a code or the pool and leave the store as it is: the listing, whether a jump may land, and the scan for the
+// The steps that read a store, code or the pool and leave the store as it is: the listing, whether a jump may land, and the scan for the
 // first nonzero byte.
 use crate::printing::bad_step;
 use crate::printing::say_landing;

@@ -33,7 +33,7 @@ pub struct Scan {
     pub looked: usize,
 }
 
-/// The scan of a word's bytes, highest first, or of any others. Both counts come added, and the second is the first or one more.
+/// The scan of a word's bytes, highest first, or of any others: bytes are counted, not bits. Both counts come added, and the second is the first or one more.
 pub fn leading_zeros(bytes: &[u8]) -> Scan {
     let both = calls::leading_zeros(bytes) as usize;
     Scan {
