@@ -27,16 +27,13 @@ more : (bs : List ℕ) (at count : ℕ) → ZerosFrom bs at count → getD bs (a
 more bs at count z e i l h =
     ⊎-elim (λ (d : i ≡ at + count). subst (λ (j : ℕ). getD bs j 0 ≡ 0) (sym d) e) (λ (d : i < at + count). z i l d) (eq-or-lt-of-le (omega arith))
 
--- four of them
-pub four : (bs : List ℕ) (at : ℕ) → getD bs at 0 ≡ 0 → getD bs (at + 1) 0 ≡ 0 → getD bs (at + 2) 0 ≡ 0 → getD bs (at + 3) 0 ≡ 0 → ZerosFrom bs at 4
-four bs at e0 e1 e2 e3 =
+-- eight of them
+pub eight : (bs : List ℕ) (at : ℕ) → getD bs at 0 ≡ 0 → getD bs (at + 1) 0 ≡ 0 → getD bs (at + 2) 0 ≡ 0 → getD bs (at + 3) 0 ≡ 0
+    → getD bs (at + 4) 0 ≡ 0 → getD bs (at + 5) 0 ≡ 0 → getD bs (at + 6) 0 ≡ 0 → getD bs (at + 7) 0 ≡ 0 → ZerosFrom bs at 8
+eight bs at e0 e1 e2 e3 e4 e5 e6 e7 =
     let first : getD bs (at + 0) 0 ≡ 0 = ap (λ (j : ℕ). getD bs j 0) (add-zero at) ∙ e0 in
-    more bs at 3 (more bs at 2 (more bs at 1 (more bs at 0 (none bs at) first) e1) e2) e3
-
--- and four more
-pub eight : (bs : List ℕ) (at : ℕ) → ZerosFrom bs at 4 → getD bs (at + 4) 0 ≡ 0 → getD bs (at + 5) 0 ≡ 0 → getD bs (at + 6) 0 ≡ 0
-    → getD bs (at + 7) 0 ≡ 0 → ZerosFrom bs at 8
-eight bs at z e4 e5 e6 e7 = more bs at 7 (more bs at 6 (more bs at 5 (more bs at 4 z e4) e5) e6) e7
+    let four = more bs at 3 (more bs at 2 (more bs at 1 (more bs at 0 (none bs at) first) e1) e2) e3 in
+    more bs at 7 (more bs at 6 (more bs at 5 (more bs at 4 four e4) e5) e6) e7
 
 -- zeros that begin where others end, or before
 pub join : (bs : List ℕ) (a m b n : ℕ) → b ≤ a + m → ZerosFrom bs a m → ZerosFrom bs b n → (i : ℕ) → a ≤ i → i < b + n → getD bs i 0 ≡ 0

@@ -134,8 +134,8 @@ fn add_word(state: u64, bytes: &mut [u8], words: &mut [u32], word: &[u8]) -> u64
     add_bytes(state, bytes, words, BytesKind::Ops, &push[zeros..end])
 }
 
-// True only of a word below 256: its first 31 bytes are compared eight and four at a time. Where such a word extends a last Ops section, it
-// isn't scanned: reading its zeros one by one would take longer than the rest of the call.
+// True only of a word below 256: its first 31 bytes are compared eight at a time, the last eight from byte 23 on. Where such a word extends
+// a last Ops section, it isn't scanned: reading its zeros one by one would take longer than the rest of the call.
 fn is_below_256(word: &[u8]) -> bool
     ensures { λ r. ⌜ (r ≡ true → Below256 (now (word .entry))) ⌝ }
 {
@@ -151,13 +151,10 @@ fn is_below_256(word: &[u8]) -> bool
     if !eight_zeros(word, 16) {
         return false;
     }
-    if !four_zeros(word, 24) {
-        return false;
-    }
-    four_zeros(word, 27)
+    eight_zeros(word, 23)
 }
 
-// True only of eight zeros from a place on: one comparison of eight bytes when compiled.
+// True only of eight zeros from a place on: written so that it compiles to one comparison, or, where one is known to be 0, to few.
 fn eight_zeros(word: &[u8], at: usize) -> bool
     requires { ⌜ at + 8 ≤ length (now word) ⌝ }
     ensures { λ r. ⌜ (r ≡ true → ZerosFrom (now (word .entry)) at 8) ⌝ }
@@ -171,21 +168,6 @@ fn eight_zeros(word: &[u8], at: usize) -> bool
         + (word[at + 5] as u64) * 0x1_0000
         + (word[at + 6] as u64) * 0x100
         + (word[at + 7] as u64);
-    if all != 0 {
-        return false;
-    }
-    true
-}
-
-// True only of four zeros from a place on.
-fn four_zeros(word: &[u8], at: usize) -> bool
-    requires { ⌜ at + 4 ≤ length (now word) ⌝ }
-    ensures { λ r. ⌜ (r ≡ true → ZerosFrom (now (word .entry)) at 4) ⌝ }
-{
-    let all = (word[at] as u64) * 0x100_0000
-        + (word[at + 1] as u64) * 0x1_0000
-        + (word[at + 2] as u64) * 0x100
-        + (word[at + 3] as u64);
     if all != 0 {
         return false;
     }

@@ -7,7 +7,7 @@ use denote.Ref.{now}
 use mathlib.Core.Path.{refl}
 use mathlib.Core.Bool.{false}
 use Rattle.slices.proofs.Tests.{clash}
-use Rattle.minimal.proofs.Below256.{four, eight}
+use Rattle.minimal.proofs.Below256.{eight}
 use Rattle.minimal.proofs.eight_zeros.Statement.{statement}
 use Rattle.minimal.proofs.eight_zeros.Tie as tie
 
@@ -197,7 +197,8 @@ returns-2 c e =
     let word = now (start .args .word) in
     let at = start .args .at in
     let sum = c .if1 .left in
-    eight word at (four word at (omega (arith, sum)) (omega (arith, sum)) (omega (arith, sum)) (omega (arith, sum))) (omega (arith, sum)) (omega (arith, sum)) (omega (arith, sum)) (omega (arith, sum))
+    eight word at (omega (arith, sum)) (omega (arith, sum)) (omega (arith, sum)) (omega (arith, sum))
+    (omega (arith, sum)) (omega (arith, sum)) (omega (arith, sum)) (omega (arith, sum))
 
 pub eight-zeros-spec : {M : Type 1} → statement M
 eight-zeros-spec =

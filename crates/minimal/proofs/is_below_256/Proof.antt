@@ -1,4 +1,4 @@
--- Five parts have every byte but the last.
+-- Four parts have every byte but the last.
 -- Assumes nothing.
 use borrow.Author.Needs.{needs}
 use native.Mathlib.Omega.{arith}
@@ -32,19 +32,12 @@ eight-zeros-requires-3 c κs = search needs
 returns-4 : tie.Need-returns-4
 returns-4 c e = clash false e refl
 
-four-zeros-requires : tie.Need-four-zeros-requires
-four-zeros-requires c κs = search needs
+eight-zeros-requires-4 : tie.Need-eight-zeros-requires-4
+eight-zeros-requires-4 c κs = search needs
 
 returns-5 : tie.Need-returns-5
-returns-5 c e = clash false e refl
-
-four-zeros-requires-2 : tie.Need-four-zeros-requires-2
-four-zeros-requires-2 c κs = search needs
-
-returns-6 : tie.Need-returns-6
-returns-6 c e =
-    let fourth = c .before in
-    let third = fourth .before .before in
+returns-5 c e =
+    let third = c .before in
     let second = third .before .before in
     let first = second .before .before in
     let start = first .before .before .before .before in
@@ -52,8 +45,7 @@ returns-6 c e =
     let to-16 = join word 0 8 8 8 (omega arith) (first .before .eight-zeros .ensures (not-false _ (first .if2 .left)))
     (second .before .eight-zeros2 .ensures (not-false _ (second .if3 .left))) in
     let to-24 = join word 0 16 16 8 (omega arith) to-16 (third .before .eight-zeros3 .ensures (not-false _ (third .if4 .left))) in
-    let to-28 = join word 0 24 24 4 (omega arith) to-24 (fourth .before .four-zeros .ensures (not-false _ (fourth .if5 .left))) in
-    (first .before .before .if1 .left, join word 0 28 27 4 (omega arith) to-28 (c .four-zeros2 .ensures e))
+    (first .before .before .if1 .left, join word 0 24 23 8 (omega arith) to-24 (c .eight-zeros4 .ensures e))
 
 pub is-below-256-spec : {M : Type 1} → statement M
 is-below-256-spec =
@@ -66,7 +58,5 @@ is-below-256-spec =
     returns-3
     eight-zeros-requires-3
     returns-4
-    four-zeros-requires
-    returns-5
-    four-zeros-requires-2
-    returns-6)
+    eight-zeros-requires-4
+    returns-5)
