@@ -1,7 +1,7 @@
 #!/usr/bin/env python3
-"""Runs replay against the model on the boundaries of the format, of runs of op bytes, of scans, of jobs and of writes, and on generated
-scripts: compare.py PROGRAM FIRST LAST. Prints each difference with the smallest script that still shows it (steps dropped one after
-another), kept as differs-SEED.script."""
+"""Runs replay against the model on the boundaries of the format, of runs of op bytes, of scans, of words, of jobs and of writes, and
+on generated scripts: compare.py PROGRAM FIRST LAST. Prints each difference with the smallest script that still shows it (steps dropped
+one after another), kept as differs-SEED.script."""
 import subprocess, sys
 import gen, jobs, model, writes
 
@@ -39,7 +39,7 @@ def smaller(program, whole):
 
 def main(program, first, last):
     lines = found = edges = 0
-    for what, whole in (*gen.edges(), *gen.run_edges(), *gen.scan_edges(), *gen.line_11(), *jobs.edges(), *writes.edges()):
+    for what, whole in (*gen.edges(), *gen.run_edges(), *gen.scan_edges(), *gen.word_edges(), *gen.line_11(), *jobs.edges(), *writes.edges()):
         edges += 1
         if d := differs(program, whole):
             print(f"{what}: line, program, model: {d}", flush=True)

@@ -681,6 +681,21 @@ def scan_edges():
         yield f"{n} zeros, and a byte", whole(bytes(n) + b"\x80", [(13, 0, n), (13, 0, n + 1), (13, 1, n + 1), (13, 0, n + 2)])
 
 
+def word_edges():
+    """Pushes of words in slices that they fill, nearly fill or pass, after sections of each kind: (what, script)."""
+    # 33 numbers of leading zeros, the byte after them small or large; one word for each byte before its last that isn't 0; each last byte
+    words = [bytes(z) + ends + bytes([fill]) * (31 - z) for z in range(32) for ends in (b"\x01", b"\xff") for fill in (0, 0xA7)]
+    words += [bytes(i) + b"\x01" + bytes(30 - i) + b"\x07" for i in range(31)] + [bytes(31) + bytes([b]) for b in range(256)] + [bytes(32)]
+    pool = b"".join(words)
+    starts = [], [(1, 7, 0)], [(2, 0xEE, 0)], [(3, 0, 1)], [(4, 7, 8)], [(2, 0xEE, 0), (1, 7, 0)]
+    for nb in (0, 1, 2, 3, 8, 9, 10, 11, 20, 21, 22, 23, 32, 33, 34, 35, 70):
+        for nw in (3, 6, 9):
+            told = (24, 0, nb), (25, 0, nw)
+            steps = [step for start in starts for i in range(len(words)) for step in ((0, 0, 0), *start, (8, 32 * i, 32 * i + 32), *told)]
+            whole = struct.pack(">6I", nb, nw, 0, 0, 0, len(pool)) + pool + b"".join(struct.pack(">BII", *s) for s in steps)
+            yield f"words with slices {nb} and {nw}", whole
+
+
 def line_11():
     """Both cases of document 01's line 11: (what, script)."""
     step = lambda *of: struct.pack(">BII", *of)
