@@ -2,18 +2,21 @@
 use Prim.Native.Nat.{ℕ, suc, _+_, _-_, _/_, _%_, _≤_, _<_}
 use native.Mathlib.Omega.{arith}
 use native.Mathlib.Nat.{add-zero, div-div-eq-div-mul}
-use mathlib.Core.Path.{_≡_, refl, sym, _∙_, ap}
+use mathlib.Core.Path.{_≡_, refl, sym, _∙_, ap, subst}
 use mathlib.Core.Bool.{Bool, true, false}
 use mathlib.Core.List.{List, [], _∷_, _++_}
 use mathlib.Core.Logic.{_⊎_, inl, inr}
-use lib.ListN.{length, getD, take, drop, set, length-append, length-drop}
-use lib.Seq.{drop-cons, drop-set-add, drop-append-le, take-at}
+use lib.ListN.{length, getD, take, drop, set, length-append, length-drop, drop-of-length-le}
+use lib.Seq.{drop-cons, drop-set-add, drop-append-le, take-at, take-all}
 use lib.Dec.{ltb}
 use borrow.Author.Tests.{ltb-true, ltb-false}
 use Rattle.units.specs.Numbers.{number, bigEndian}
 use Rattle.units.proofs.BigEndian.{AllBytes, leastBytes-leading, bigEndian-leading}
 use Rattle.evm.specs.Opcodes.{pushOp}
 use Rattle.calls.specs.Calls.{minimalPush}
+use Rattle.records.specs.Store.{Store}
+use Rattle.records.specs.Sections.{Section}
+use Rattle.short.specs.Tried.{TriedSection}
 use Rattle.minimal.specs.Zeros.{LeadingZeros}
 
 -- a number's eight bytes
@@ -51,3 +54,19 @@ module _ (digits : List ℕ) (k : ℕ) (few : length digits ≤ 32) (all : AllBy
   minimal-of =
       rw (leastBytes-leading 32 k digits all few (z .zeros) ends)
       (ap (λ (x : List ℕ). pushOp (length digits - k) ∷ x) (sym (bigEndian-leading k digits all (z .zeros))))
+
+  -- the same as an instruction, the part after the zeros being its immediate
+  pub instruction-of : (op : ℕ) → op ≡ pushOp (length digits - k) → op ∷ take (length digits - k) (drop k digits) ≡ minimalPush (number digits)
+  instruction-of op e =
+      ap (λ (x : List ℕ). op ∷ x) (take-all (length digits - k) (drop k digits) (omega (arith, length-drop k digits)))
+      ∙ ap (λ (o : ℕ). o ∷ drop k digits) e ∙ minimal-of
+
+  -- of zeros alone it is PUSH0
+  pub push-zero : k ≡ length digits → pushOp 0 ∷ [] ≡ minimalPush (number digits)
+  push-zero e =
+      ap (λ (x : List ℕ). pushOp 0 ∷ x) (sym (drop-of-length-le digits {i = k} (omega (arith, e))))
+      ∙ ap (λ (o : ℕ). o ∷ drop k digits) (omega (arith, e)) ∙ minimal-of
+
+-- what was tried of a section was tried of an equal one
+pub tried-same : (s t : Section) → s ≡ t → {st : Store} {tried : ℕ} {bs ws : List ℕ} → TriedSection s st tried bs ws → TriedSection t st tried bs ws
+tried-same s t e {st = st} {tried = tried} {bs = bs} {ws = ws} all = subst (λ (x : Section). TriedSection x st tried bs ws) e all

@@ -1,2 +1,2 @@
-pub mod Below256
+pub mod Groups
 pub mod Zeros

@@ -18,7 +18,7 @@ ghost use Rattle.calls.specs.Calls.{pushReply, pushAfter};
 ghost use Rattle.numbers.specs.Numbers.{storeIn, builtNumber};
 ghost use mathlib.Core.Bool.{true};
 ghost use Rattle.minimal.specs.Zeros.{LeadingZeros, looked};
-ghost use Rattle.minimal.specs.Below256.{Below256, ZerosFrom};
+ghost use Rattle.minimal.specs.Groups.{ZerosFrom};
 
 // The bytes of a word.
 const WORD: usize = 32;
@@ -41,15 +41,7 @@ pub fn push_minimal_u256(state: u64, bytes: &mut [u8], words: &mut [u32], word: 
     if word.len() != WORD {
         return refusal_number(Refusal::BadWord);
     }
-    // Taken anew: lent on as it is, the word would be copied into memory on the way for small words too.
-    if !is_below_256(word) {
-        return add_word(state, bytes, words, &word[..]);
-    }
-    let tried = short::extend_push(state, bytes, words, word[WORD - 1] as u64);
-    if tried != 0 {
-        return tried;
-    }
-    add_word(state, bytes, words, &word[..])
+    add_push(state, bytes, words, word)
 }
 
 // Pushes a number. Refusals: 6, 4, 5.
@@ -97,7 +89,8 @@ fn add_number(state: u64, bytes: &mut [u8], words: &mut [u32], value: u64) -> u6
     add_push(state, bytes, words, &digits)
 }
 
-// Adds the minimal push of a number of at most 32 bytes, highest first.
+// Adds the minimal push of a number of at most 32 bytes, highest first, by the scan. One byte and none are tried here, with counts that the
+// compiler knows; the rest is `add_scanned`, which stays a function of its own: too large to be inlined, and called three times.
 fn add_push(state: u64, bytes: &mut [u8], words: &mut [u32], digits: &[u8]) -> u64
     requires { ⌜ length (now digits) ≤ 32 ⌝ }
     ensures reply { λ r. ⌜ r ≡ builtNumber (addReply wordsPerSection (ops (minimalPush (number (now (digits .entry)))))
@@ -108,53 +101,116 @@ fn add_push(state: u64, bytes: &mut [u8], words: &mut [u32], digits: &[u8]) -> u
         (storeIn state (now (bytes .entry)) (now (words .entry))) .words ⌝ }
 {
     let zeros = leading_zeros(digits).zeros;
+    if zeros + 1 == digits.len() {
+        let tried = short::extend_instruction(
+            state,
+            bytes,
+            words,
+            evm::op::PUSH0 + 1,
+            &digits[zeros..],
+        );
+        if tried != 0 {
+            return tried;
+        }
+        return add_scanned(state, bytes, words, &digits[..], zeros);
+    }
+    if zeros == digits.len() {
+        let tried = short::extend_op(state, bytes, words, evm::op::PUSH0);
+        if tried != 0 {
+            return tried;
+        }
+        return add_scanned(state, bytes, words, &digits[..], zeros);
+    }
+    add_scanned(state, bytes, words, &digits[..], zeros)
+}
+
+// The same after the scan: at once where the push extends a last Ops section, else judged.
+fn add_scanned(state: u64, bytes: &mut [u8], words: &mut [u32], digits: &[u8], zeros: usize) -> u64
+    requires { ⌜ length (now digits) ≤ 32 ⌝ }
+    requires { ⌜ LeadingZeros (now digits) zeros ⌝ }
+    ensures reply { λ r. ⌜ r ≡ builtNumber (addReply wordsPerSection (ops (minimalPush (number (now (digits .entry)))))
+        (storeIn state (now (bytes .entry)) (now (words .entry)))) ⌝ }
+    ensures bytes { λ _. ⌜ now (bytes .exit) ≡ addAfter wordsPerSection (ops (minimalPush (number (now (digits .entry)))))
+        (storeIn state (now (bytes .entry)) (now (words .entry))) .bytes ⌝ }
+    ensures words { λ _. ⌜ now (words .exit) ≡ addAfter wordsPerSection (ops (minimalPush (number (now (digits .entry)))))
+        (storeIn state (now (bytes .entry)) (now (words .entry))) .words ⌝ }
+{
+    let op = evm::op::PUSH0 + ((digits.len() - zeros) as u8);
+    let tried = short::extend_instruction(state, bytes, words, op, &digits[zeros..]);
+    if tried != 0 {
+        return tried;
+    }
     let push = push_bytes(digits, zeros);
     let end = digits.len() + 1;
     add_bytes(state, bytes, words, BytesKind::Ops, &push[zeros..end])
 }
 
-// Adds the minimal push of a word by the scan, at once where it extends a last Ops section. Too large to be inlined, and called twice, it
-// stays a function of its own. A number needs no such try: it was tried before `add_number`.
-fn add_word(state: u64, bytes: &mut [u8], words: &mut [u32], word: &[u8]) -> u64
-    requires { ⌜ length (now word) ≤ 32 ⌝ }
-    ensures reply { λ r. ⌜ r ≡ builtNumber (addReply wordsPerSection (ops (minimalPush (number (now (word .entry)))))
-        (storeIn state (now (bytes .entry)) (now (words .entry)))) ⌝ }
-    ensures bytes { λ _. ⌜ now (bytes .exit) ≡ addAfter wordsPerSection (ops (minimalPush (number (now (word .entry)))))
-        (storeIn state (now (bytes .entry)) (now (words .entry))) .bytes ⌝ }
-    ensures words { λ _. ⌜ now (words .exit) ≡ addAfter wordsPerSection (ops (minimalPush (number (now (word .entry)))))
-        (storeIn state (now (bytes .entry)) (now (words .entry))) .words ⌝ }
+// How many zero bytes a number begins with, and how many bytes were looked at, counted as they are read: the scan ends at the first
+// nonzero byte. Takes every slice. Groups of zeros are passed over by one comparison each, and each of their bytes is counted; of a group
+// that holds another byte none is: it is read byte by byte from its start on. A word with 28 zeros passed over has a call of its own: the
+// compiler then makes four reads of it, and no loop.
+pub fn leading_zeros(digits: &[u8]) -> Scan
+    ensures zeros { λ r. ⌜ LeadingZeros (now (digits .entry)) (r .zeros) ⌝ }
+    ensures looked { λ r. ⌜ r .looked ≡ looked (now (digits .entry)) ⌝ }
 {
-    let zeros = leading_zeros(word).zeros;
-    let push = push_bytes(word, zeros);
-    let end = word.len() + 1;
-    let tried = short::extend_ops(state, bytes, words, &push[zeros..end]);
-    if tried != 0 {
-        return tried;
+    if has_four_left(digits) {
+        return scan_from(digits, WORD - 4);
     }
-    add_bytes(state, bytes, words, BytesKind::Ops, &push[zeros..end])
+    scan_from(digits, eights_passed(digits))
 }
 
-// True only of a word below 256: its first 31 bytes are compared eight at a time, the last eight from byte 23 on. Where such a word extends
-// a last Ops section, it isn't scanned: reading its zeros one by one would take longer than the rest of the call.
-fn is_below_256(word: &[u8]) -> bool
-    ensures { λ r. ⌜ (r ≡ true → Below256 (now (word .entry))) ⌝ }
+// The scan from a place on, after zeros that were looked at.
+fn scan_from(digits: &[u8], passed: usize) -> Scan
+    requires { ⌜ (passed ≤ length (now digits)) × ZerosFrom (now digits) 0 passed ⌝ }
+    ensures { λ r. ⌜ LeadingZeros (now (digits .entry)) (r .zeros) × (r .looked ≡ looked (now (digits .entry))) ⌝ }
 {
-    if word.len() != WORD {
-        return false;
+    let mut i = passed;
+    let mut looked = passed;
+    while i < digits.len() {
+        let byte = digits[i];
+        looked += 1;
+        if byte != 0 {
+            return Scan { zeros: i, looked };
+        }
+        i += 1;
     }
-    if !eight_zeros(word, 0) {
-        return false;
-    }
-    if !eight_zeros(word, 8) {
-        return false;
-    }
-    if !eight_zeros(word, 16) {
-        return false;
-    }
-    eight_zeros(word, 23)
+    Scan { zeros: i, looked }
 }
 
-// True only of eight zeros from a place on: written so that it compiles to one comparison, or, where one is known to be 0, to few.
+// The zeros passed over eight at a time.
+fn eights_passed(digits: &[u8]) -> usize
+    ensures { λ r. ⌜ (r ≤ length (now (digits .entry))) × ZerosFrom (now (digits .entry)) 0 r ⌝ }
+{
+    let mut i = 0;
+    while i + 8 <= digits.len() {
+        if !eight_zeros(digits, i) {
+            return i;
+        }
+        i += 8;
+    }
+    i
+}
+
+// True only of a word that begins with 28 zeros, passed over in four comparisons.
+fn has_four_left(digits: &[u8]) -> bool
+    ensures { λ r. ⌜ (r ≡ true → (length (now (digits .entry)) ≡ 32) × ZerosFrom (now (digits .entry)) 0 28) ⌝ }
+{
+    if digits.len() != WORD {
+        return false;
+    }
+    if !eight_zeros(digits, 0) {
+        return false;
+    }
+    if !eight_zeros(digits, 8) {
+        return false;
+    }
+    if !eight_zeros(digits, 16) {
+        return false;
+    }
+    four_zeros(digits, 24)
+}
+
+// True only of eight zeros from a place on: written so that it compiles to one comparison.
 fn eight_zeros(word: &[u8], at: usize) -> bool
     requires { ⌜ at + 8 ≤ length (now word) ⌝ }
     ensures { λ r. ⌜ (r ≡ true → ZerosFrom (now (word .entry)) at 8) ⌝ }
@@ -174,23 +230,19 @@ fn eight_zeros(word: &[u8], at: usize) -> bool
     true
 }
 
-// How many zero bytes a number begins with, and how many bytes were looked at, counted as they are read: the scan ends at the first
-// nonzero byte. Takes every slice.
-pub fn leading_zeros(digits: &[u8]) -> Scan
-    ensures zeros { λ r. ⌜ LeadingZeros (now (digits .entry)) (r .zeros) ⌝ }
-    ensures looked { λ r. ⌜ r .looked ≡ looked (now (digits .entry)) ⌝ }
+// The same of four.
+fn four_zeros(word: &[u8], at: usize) -> bool
+    requires { ⌜ at + 4 ≤ length (now word) ⌝ }
+    ensures { λ r. ⌜ (r ≡ true → ZerosFrom (now (word .entry)) at 4) ⌝ }
 {
-    let mut i = 0;
-    let mut looked = 0;
-    while i < digits.len() {
-        let byte = digits[i];
-        looked += 1;
-        if byte != 0 {
-            return Scan { zeros: i, looked };
-        }
-        i += 1;
+    let all = (word[at] as u64) * 0x100_0000
+        + (word[at + 1] as u64) * 0x1_0000
+        + (word[at + 2] as u64) * 0x100
+        + (word[at + 3] as u64);
+    if all != 0 {
+        return false;
     }
-    Scan { zeros: i, looked }
+    true
 }
 
 // A number after one byte more, with the opcode in the place before the bytes that it pushes.

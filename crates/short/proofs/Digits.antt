@@ -5,11 +5,11 @@ use native.Mathlib.Nat.{lt-of-lt-of-le}
 use mathlib.Core.Path.{_≡_, sym, ap, _∙_}
 use mathlib.Core.List.{List, [], _∷_}
 use lib.Dec.{lit≤}
-use lib.ListN.{length, set}
+use lib.ListN.{length, set, length-set}
 use Rattle.units.specs.Numbers.{bigEndian, leastBytes}
 use Rattle.units.proofs.BigEndian.{length-bigEndian, leastBytes-suc, leastBytes-zero, leastBytes-iff}
-use Rattle.slices.specs.Over.{over}
-use Rattle.slices.proofs.Over.{over-one, over-next, over-nothing}
+use Rattle.slices.specs.Over.{over, overIfRoom}
+use Rattle.slices.proofs.Over.{has-room, over-one, over-next, over-nothing}
 use Rattle.calls.specs.Calls.{minimalPush}
 
 -- one byte more counted
@@ -39,10 +39,17 @@ pub digits-done : (old : List ℕ) (i n v : ℕ) → n ≡ 0 → old ≡ over ol
 unfolding bigEndian
 digits-done old i n v e = rw e (sym (over-nothing old i))
 
+-- an op byte, and then bytes after it
+pub op-written : (old : List ℕ) (i op : ℕ) (xs : List ℕ) → i < length old → over (set old i op) (i + 1) xs ≡ over old i (op ∷ xs)
+op-written old i op xs h =
+    ap (λ (o : List ℕ). over o (i + 1) xs) (over-one old i op h) ∙ over-next old i (op ∷ []) xs (omega (arith, h))
+
 -- the opcode and then the bytes are the minimal push
 pub push-written : (old : List ℕ) (i n v : ℕ) → n ≡ leastBytes 32 v → i < length old → over (set old i (0x5f + n)) (i + 1) (bigEndian n v) ≡ over old i (minimalPush v)
 unfolding minimalPush
-push-written old i n v e h =
-    ap (λ (o : List ℕ). over o (i + 1) (bigEndian n v)) (over-one old i (0x5f + n) h)
-    ∙ over-next old i ((0x5f + n) ∷ []) (bigEndian n v) (omega (arith, h))
-    ∙ ap (λ (k : ℕ). over old i ((0x5f + k) ∷ bigEndian k v)) e
+push-written old i n v e h = op-written old i (0x5f + n) (bigEndian n v) h ∙ ap (λ (k : ℕ). over old i ((0x5f + k) ∷ bigEndian k v)) e
+
+-- the same of bytes copied where there is room
+pub instruction-written : (old : List ℕ) (i op : ℕ) (xs : List ℕ) → i + (1 + length xs) ≤ length old → overIfRoom (set old i op) (i + 1) xs ≡ over old i (op ∷ xs)
+instruction-written old i op xs h =
+    has-room (set old i op) (i + 1) xs (omega (arith, h, length-set old i op)) ∙ op-written old i op xs (omega (arith, h))

@@ -29,6 +29,9 @@ const LONGEST_PUSH: usize = 9;
 // Data is most often a constant of one EVM word.
 const DATA_WORD: usize = 32;
 
+// The longest immediate, that of PUSH32.
+const LONGEST_IMMEDIATE: usize = 32;
+
 // An op byte that extends a last Ops section.
 pub fn extend_op(state: u64, bytes: &mut [u8], words: &mut [u32], op: u8) -> u64
     ensures { λ r. ⌜ TriedSection (ops (op ∷ [])) (storeIn state (now (bytes .entry)) (now (words .entry))) r
@@ -74,6 +77,31 @@ pub fn extend_ops(state: u64, bytes: &mut [u8], words: &mut [u32], added: &[u8])
         (now (bytes .exit)) (now (words .exit)) ⌝ }
 {
     extend_bytes(state, bytes, words, kind::OPS, added)
+}
+
+// An instruction, its op byte and an immediate of at most 32 bytes, that extends a last Ops section. The immediate is copied from where it
+// is: the op byte is written first, so that no register keeps what is read before the tests.
+pub fn extend_instruction(
+    state: u64,
+    bytes: &mut [u8],
+    words: &mut [u32],
+    op: u8,
+    immediate: &[u8],
+) -> u64
+    ensures { λ r. ⌜ TriedSection (ops (op ∷ now (immediate .entry))) (storeIn state (now (bytes .entry)) (now (words .entry))) r
+        (now (bytes .exit)) (now (words .exit)) ⌝ }
+{
+    if LONGEST_IMMEDIATE < immediate.len() {
+        return 0;
+    }
+    let count = 1 + immediate.len();
+    if !extends(state, bytes, words, kind::OPS, count) {
+        return 0;
+    }
+    let at = (state % numbers::SECTION) as usize;
+    bytes[at] = op;
+    slices::write_bytes(bytes, at + 1, immediate);
+    move_end(state, words, count as u32)
 }
 
 // Data that extends a last Data section.

@@ -7,7 +7,7 @@ use denote.Ref.{now}
 use mathlib.Core.Path.{refl}
 use mathlib.Core.Bool.{false}
 use Rattle.slices.proofs.Tests.{clash}
-use Rattle.minimal.proofs.Below256.{eight}
+use Rattle.minimal.proofs.Groups.{eight}
 use Rattle.minimal.proofs.eight_zeros.Statement.{statement}
 use Rattle.minimal.proofs.eight_zeros.Tie as tie
 

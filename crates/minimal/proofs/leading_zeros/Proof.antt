@@ -1,58 +1,33 @@
--- The invariant: every byte before i is 0, and they are the bytes looked at. The measure is what is left.
+-- The scan from where 28 zeros, or groups of eight, were passed over.
 -- Assumes nothing.
 use borrow.Author.Needs.{needs}
-use mathlib.Core.Path.{_≡_}
 use native.Mathlib.Omega.{arith}
-use Prim.Native.Nat.{ℕ, _-_, _≤_, _<_}
-use denote.Ref.{now}
-use lib.ListN.{length, getD}
-use borrow.Author.Count.{below-more}
-use Rattle.minimal.specs.Zeros.{LeadingZeros}
-use Rattle.minimal.proofs.Looked.{looked-bytes}
 use Rattle.minimal.proofs.leading_zeros.Statement.{statement}
 use Rattle.minimal.proofs.leading_zeros.Tie as tie
 
-abbrev Inv-loop : tie.InvT-loop
-Inv-loop digits i₀ looked₀ i looked = (i ≤ length digits) × (((k : ℕ) → k < i → getD digits k 0 ≡ 0) × (looked ≡ i))
+has-four-left-requires : tie.Need-has-four-left-requires
+has-four-left-requires c κs = search needs
 
-abbrev μ-loop : tie.MeasureT-loop
-μ-loop digits i₀ looked₀ i looked = length digits - i
+sub-scan-from : tie.Need-sub-scan-from
+sub-scan-from c = search needs
 
-loop-holds : tie.Need-loop-holds Inv-loop μ-loop
-loop-holds c = search needs
+scan-from-requires : tie.Need-scan-from-requires
+scan-from-requires c κs =
+    let known = c .before .has-four-left .ensures (c .if1 .taken) in
+    (omega (arith, known .0), known .1)
 
-shared-slice-read-byte : tie.Need-shared-slice-read-byte Inv-loop μ-loop
-shared-slice-read-byte c = omega arith
+returns : tie.Need-returns
+returns c = search needs
 
-add-looked : tie.Need-add-looked Inv-loop μ-loop
-add-looked c = omega arith
+eights-passed-requires : tie.Need-eights-passed-requires
+eights-passed-requires c κs = search needs
 
-returns : tie.Need-returns Inv-loop μ-loop
-returns c =
-    let turn = c .before .before .before in
-    let digits = now (turn .before .args .digits) in
-    let found : LeadingZeros digits (turn .loop .i) =
-    record { within = omega arith; zeros = turn .loop .inv .1 .0; ends = λ l e. c .if1 .taken e } in
-    (found, omega (arith, looked-bytes digits (turn .loop .i) found))
+scan-from-requires-2 : tie.Need-scan-from-requires-2
+scan-from-requires-2 c κs = search needs
 
-add-i : tie.Need-add-i Inv-loop μ-loop
-add-i c = omega arith
-
-loop-less : tie.Need-loop-less Inv-loop μ-loop
-loop-less c = omega arith
-
-loop-again : tie.Need-loop-again Inv-loop μ-loop
-loop-again c =
-    let turn = c .before .before .before .loop in
-    (omega arith, (below-more _ _ (turn .inv .1 .0) (c .if1 .left), omega arith))
-
-returns-2 : tie.Need-returns-2 Inv-loop μ-loop
-returns-2 c =
-    let turn = c .before in
-    let digits = now (turn .before .args .digits) in
-    let none : LeadingZeros digits (turn .loop .i) = record { within = omega arith; zeros = turn .loop .inv .1 .0; ends = λ l e. omega arith } in
-    (none, omega (arith, looked-bytes digits (turn .loop .i) none))
+returns-2 : tie.Need-returns-2
+returns-2 c = search needs
 
 pub leading-zeros-spec : {M : Type 1} → statement M
 leading-zeros-spec =
-    tie.close (tie.spec Inv-loop μ-loop loop-holds shared-slice-read-byte add-looked returns add-i loop-less loop-again returns-2)
+    tie.close (tie.spec has-four-left-requires sub-scan-from scan-from-requires returns eights-passed-requires scan-from-requires-2 returns-2)
