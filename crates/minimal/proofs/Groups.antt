@@ -26,11 +26,14 @@ four bs at e0 e1 e2 e3 =
     let first : getD bs (at + 0) 0 ≡ 0 = ap (λ (j : ℕ). getD bs j 0) (add-zero at) ∙ e0 in
     more bs at 3 (more bs at 2 (more bs at 1 (more bs at 0 (none bs at) first) e1) e2) e3
 
+-- three more than four
+pub seven : (bs : List ℕ) (at : ℕ) → ZerosFrom bs at 4 → getD bs (at + 4) 0 ≡ 0 → getD bs (at + 5) 0 ≡ 0 → getD bs (at + 6) 0 ≡ 0 → ZerosFrom bs at 7
+seven bs at z e4 e5 e6 = more bs at 6 (more bs at 5 (more bs at 4 z e4) e5) e6
+
 -- eight of them
 pub eight : (bs : List ℕ) (at : ℕ) → getD bs at 0 ≡ 0 → getD bs (at + 1) 0 ≡ 0 → getD bs (at + 2) 0 ≡ 0 → getD bs (at + 3) 0 ≡ 0
     → getD bs (at + 4) 0 ≡ 0 → getD bs (at + 5) 0 ≡ 0 → getD bs (at + 6) 0 ≡ 0 → getD bs (at + 7) 0 ≡ 0 → ZerosFrom bs at 8
-eight bs at e0 e1 e2 e3 e4 e5 e6 e7 =
-    more bs at 7 (more bs at 6 (more bs at 5 (more bs at 4 (four bs at e0 e1 e2 e3) e4) e5) e6) e7
+eight bs at e0 e1 e2 e3 e4 e5 e6 e7 = more bs at 7 (seven bs at (four bs at e0 e1 e2 e3) e4 e5 e6) e7
 
 -- zeros that begin where others end, or before
 pub join : (bs : List ℕ) (a m b n : ℕ) → b ≤ a + m → ZerosFrom bs a m → ZerosFrom bs b n → (i : ℕ) → a ≤ i → i < b + n → getD bs i 0 ≡ 0

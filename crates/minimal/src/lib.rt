@@ -86,11 +86,12 @@ fn add_number(state: u64, bytes: &mut [u8], words: &mut [u32], value: u64) -> u6
         (storeIn state (now (bytes .entry)) (now (words .entry))) .words ⌝ }
 {
     let digits = eight_bytes(value);
-    add_push(state, bytes, words, &digits)
+    let zeros = leading_zeros(&digits).zeros;
+    add_scanned(state, bytes, words, &digits, zeros)
 }
 
 // Adds the minimal push of a number of at most 32 bytes, highest first, by the scan. One byte and none are tried here, with counts that the
-// compiler knows; the rest is `add_scanned`, which stays a function of its own: too large to be inlined, and called three times.
+// compiler knows; the rest is `add_scanned`, too large to be inlined.
 fn add_push(state: u64, bytes: &mut [u8], words: &mut [u32], digits: &[u8]) -> u64
     requires { ⌜ length (now digits) ≤ 32 ⌝ }
     ensures reply { λ r. ⌜ r ≡ builtNumber (addReply wordsPerSection (ops (minimalPush (number (now (digits .entry)))))
@@ -146,17 +147,20 @@ fn add_scanned(state: u64, bytes: &mut [u8], words: &mut [u32], digits: &[u8], z
 }
 
 // How many zero bytes a number begins with, and how many bytes were looked at, counted as they are read: the scan ends at the first
-// nonzero byte. Takes every slice. Groups of zeros are passed over by one comparison each, and each of their bytes is counted; of a group
-// that holds another byte none is: it is read byte by byte from its start on. A word with 28 zeros passed over has a call of its own: the
-// compiler then makes four reads of it, and no loop.
+// nonzero byte. Takes every slice. Zeros are passed over in groups, each compared at once, and every byte of such a group is counted; a
+// group that holds another byte is read byte by byte from its start on. Before the last byte the two ways part, so that the compiler
+// makes a single read of it, and no loop.
 pub fn leading_zeros(digits: &[u8]) -> Scan
     ensures zeros { λ r. ⌜ LeadingZeros (now (digits .entry)) (r .zeros) ⌝ }
     ensures looked { λ r. ⌜ r .looked ≡ looked (now (digits .entry)) ⌝ }
 {
-    if has_four_left(digits) {
-        return scan_from(digits, WORD - 4);
+    let passed = eights_passed(digits);
+    if passed + 8 == digits.len() {
+        if seven_zeros(digits, passed) {
+            return scan_from(digits, passed + 7);
+        }
     }
-    scan_from(digits, eights_passed(digits))
+    scan_from(digits, passed)
 }
 
 // The scan from a place on, after zeros that were looked at.
@@ -177,12 +181,12 @@ fn scan_from(digits: &[u8], passed: usize) -> Scan
     Scan { zeros: i, looked }
 }
 
-// The zeros passed over eight at a time.
+// The zeros passed over eight at a time, while more than eight bytes are left.
 fn eights_passed(digits: &[u8]) -> usize
     ensures { λ r. ⌜ (r ≤ length (now (digits .entry))) × ZerosFrom (now (digits .entry)) 0 r ⌝ }
 {
     let mut i = 0;
-    while i + 8 <= digits.len() {
+    while i + 8 < digits.len() {
         if !eight_zeros(digits, i) {
             return i;
         }
@@ -191,23 +195,19 @@ fn eights_passed(digits: &[u8]) -> usize
     i
 }
 
-// True only of a word that begins with 28 zeros, passed over in four comparisons.
-fn has_four_left(digits: &[u8]) -> bool
-    ensures { λ r. ⌜ (r ≡ true → (length (now (digits .entry)) ≡ 32) × ZerosFrom (now (digits .entry)) 0 28) ⌝ }
+// True only of seven zeros from a place on.
+fn seven_zeros(word: &[u8], at: usize) -> bool
+    requires { ⌜ at + 7 ≤ length (now word) ⌝ }
+    ensures { λ r. ⌜ (r ≡ true → ZerosFrom (now (word .entry)) at 7) ⌝ }
 {
-    if digits.len() != WORD {
+    if !four_zeros(word, at) {
         return false;
     }
-    if !eight_zeros(digits, 0) {
+    let two = (word[at + 4] as u64) * 0x100 + (word[at + 5] as u64);
+    if two != 0 {
         return false;
     }
-    if !eight_zeros(digits, 8) {
-        return false;
-    }
-    if !eight_zeros(digits, 16) {
-        return false;
-    }
-    four_zeros(digits, 24)
+    word[at + 6] == 0
 }
 
 // True only of eight zeros from a place on: written so that it compiles to one comparison.
