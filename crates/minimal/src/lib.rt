@@ -76,7 +76,8 @@ pub fn push_minimal_u32(state: u64, bytes: &mut [u8], words: &mut [u32], value: 
     add_number(state, bytes, words, value as u64)
 }
 
-// Adds the minimal push of a number that extends no section at once; with two callers it stays a function of its own.
+// Adds the minimal push of a number that the short way left, which asks for nine free bytes: by the scan. Small enough to be inlined into
+// its two callers.
 fn add_number(state: u64, bytes: &mut [u8], words: &mut [u32], value: u64) -> u64
     ensures reply { λ r. ⌜ r ≡ builtNumber (addReply wordsPerSection (ops (minimalPush value))
         (storeIn state (now (bytes .entry)) (now (words .entry)))) ⌝ }
@@ -113,6 +114,7 @@ fn add_push(state: u64, bytes: &mut [u8], words: &mut [u32], digits: &[u8]) -> u
         if tried != 0 {
             return tried;
         }
+        // Taken anew, here and below: lent on as it is, the slice would be copied into memory on the short ways too.
         return add_scanned(state, bytes, words, &digits[..], zeros);
     }
     if zeros == digits.len() {
@@ -146,10 +148,11 @@ fn add_scanned(state: u64, bytes: &mut [u8], words: &mut [u32], digits: &[u8], z
     add_bytes(state, bytes, words, BytesKind::Ops, &push[zeros..end])
 }
 
-// How many zero bytes a number begins with, and how many bytes were looked at, counted as they are read: the scan ends at the first
-// nonzero byte. Takes every slice. Zeros are passed over in groups, each compared at once, and every byte of such a group is counted; a
-// group that holds another byte is read byte by byte from its start on. Before the last byte the two ways part, so that the compiler
-// makes a single read of it, and no loop.
+// How many zero bytes a number begins with, and how many bytes it looked at: up to and with the first nonzero one, where the scan ends.
+// Takes every slice. Zeros are passed over in groups: eight bytes in one comparison and, where eight are left, the seven before the last
+// in three. Every byte of a group passed over is counted. A group with another byte in it, and what fills no group, is read byte by byte,
+// with the counter beside the read. So a comparison may touch up to seven bytes behind the first nonzero one, which aren't counted
+// (DECISIONS 77). After the seven the last byte alone is left: that call stands apart, so that the compiler makes one read of it, no loop.
 pub fn leading_zeros(digits: &[u8]) -> Scan
     ensures zeros { λ r. ⌜ LeadingZeros (now (digits .entry)) (r .zeros) ⌝ }
     ensures looked { λ r. ⌜ r .looked ≡ looked (now (digits .entry)) ⌝ }

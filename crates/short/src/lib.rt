@@ -80,7 +80,7 @@ pub fn extend_ops(state: u64, bytes: &mut [u8], words: &mut [u32], added: &[u8])
 }
 
 // An instruction, its op byte and an immediate of at most 32 bytes, that extends a last Ops section. The immediate is copied from where it
-// is: the op byte is written first, so that no register keeps what is read before the tests.
+// is, and read only after the op byte is written, so that no register holds it over the tests.
 pub fn extend_instruction(
     state: u64,
     bytes: &mut [u8],
