@@ -23,6 +23,8 @@ ALLOWED = {  # number of our refusal: how the original's answer may begin
     3: ("stored ", "panic: Index overflow"),
     7: ("length ", "refused 10 ", "panic: "),
     8: ("length ", "refused 10 ", "panic: "),
+    17: ("length ", "refused 10 ", "panic: "),
+    18: ("length ", "refused 10 ", "panic: "),
     9: ("refused 10 ", UNSETTLED),
     11: (UNSETTLED,),
     12: ("panic: delta underflow after convergence",),
@@ -58,19 +60,26 @@ def bad_call(kind: int, a: int, b: int) -> int:
 
 
 def marks_apart(calls: lists.Calls, table: int) -> int:
-    """7 if a mark is past the table, else 8 if one is named and not placed, else 9 if one has bytes between its placings, else 0."""
+    """7 if a mark is past the table, else 8, 17 or 18 by the first reference to a mark that isn't placed, else 9 if one has bytes between its
+    placings, else 0."""
     since = max((i + 1 for i, call in enumerate(calls) if call == lists.clear), default=0)
     placed: dict[int, set[int]] = {}  # for each placed mark, how many calls that add bytes came before its placings
-    named, before = set(), 0
+    named: list[tuple[int, ...]] = []  # the marks of each reference
+    before = 0
     for kind, a, b in calls[since:]:
         if kind == 1:
             placed.setdefault(a, set()).add(before)
             continue
-        named |= {a} if kind == 4 else {a, b} if kind >= 32 else set()
+        named += [(a,)] if kind == 4 else [(a, b)] if kind >= 32 else []
         before += not (kind in (3, 12) and a == b)
-    if any(m >= table for m in named | placed.keys()):
+    if any(m >= table for marks in [*named, placed] for m in marks):
         return 7
-    return 8 if named - placed.keys() else 9 if any(len(at) > 1 for at in placed.values()) else 0
+    for first, *other in named:
+        if first not in placed:
+            return 17 if other else 8
+        if other and other[0] not in placed:
+            return 18
+    return 9 if any(len(at) > 1 for at in placed.values()) else 0
 
 
 def must(true: bool, *what: object) -> None:

@@ -79,7 +79,7 @@ def marks():
 
 
 def refusals():
-    """Numbers 3 and 7 to 12, most at a section whose index isn't the step's; 15 where a call would be refused first."""
+    """Numbers 3, 7 to 12, 17 and 18, most at a section whose index isn't the step's; 15 where a call would be refused first."""
     ops = op(0x60), op(0x5B), op(0), op(0x5B)
     yield "3 from the second call", job(b"", op(0), mark(MARK + 1))
     yield "3 before what assembly would refuse", job(b"", direct(5, 8), mark(MARK + 1), mark(TABLE))
@@ -91,7 +91,14 @@ def refusals():
     yield "7 after joined op bytes", job(b"", *ops, mark(0), op(1), op(1), mark(TABLE))
     yield "7 before 8", job(b"", *ops, direct(5, 8), direct(TABLE, 0))
     yield "8 after joined op bytes", job(b"", *ops, direct(5, 8))
-    yield "8 after joined data", job(b"\xaa\xbb", data(0, 1), data(0, 0), data(1, 2), delta(0, 5, 0), mark(0))
+    yield "18 after joined data", job(b"\xaa\xbb", data(0, 1), data(0, 0), data(1, 2), delta(0, 5, 0), mark(0))
+    yield "17 after joined op bytes", job(b"", *ops, delta(5, 0, 8), mark(0))
+    yield "17, both ends", job(b"", *ops, delta(5, 6, 0), mark(0))
+    yield "17, one mark as both ends", job(b"", *ops, delta(5, 5, 8), mark(0))
+    yield "17 before a later 8", job(b"", *ops, mark(0), delta(5, 0, 8), direct(5, 8))
+    yield "18 before a later 8", job(b"", *ops, mark(0), delta(0, 5, 8), direct(5, 8))
+    yield "8 before a later 17", job(b"", *ops, mark(0), direct(5, 8), delta(5, 0, 8))
+    yield "7 before an earlier 18", job(b"", *ops, mark(0), delta(0, 5, 8), mark(TABLE))
     yield "8 after op bytes and data", job(b"\xaa", *ops, data(0, 1), op(0), data(0, 0), direct(5, 8))
     yield "8 at a section of two digits", job(b"", *map(mark, range(11)), *ops, direct(11, 8))
     yield "9 after joined op bytes", job(b"", mark(0), *ops, mark(0))

@@ -200,15 +200,16 @@ class Model:
     # -- document 01, modules 3 and 4
 
     def test_marks(self, sections):
-        """Numbers 7, 8 and 9, each over the whole store."""
+        """Numbers 7; 8, 17 or 18; and 9, each over the whole store."""
         named = [(m[0],) if what == "mark" else m[0] if what == "ref" else () for what, *m in sections]
         placed = {m[0] for what, *m in sections if what == "mark"}
         for i, marks in enumerate(named):
             if any(m >= len(self.table) for m in marks):
                 raise Refused(7, i)
         for i, marks in enumerate(named):
-            if any(m not in placed for m in marks):
-                raise Refused(8, i)
+            absent = [m not in placed for m in marks]
+            if any(absent):
+                raise Refused(8 if len(marks) == 1 else 17 if absent[0] else 18, i)
         first, between = {}, 0  # sections with bytes before a mark's first placing, and so far
         for i, (what, *of) in enumerate(sections):
             if what == "mark":

@@ -687,7 +687,8 @@ for calls in (
     calls()
     coded()
 
-# number 8: a named mark that isn't placed, at either end; before 9 and 10; an unplaced mark that nobody names is none
+# numbers 8, 17 and 18: a named mark that isn't placed, a direct reference's, a delta's start or its end; before 9 and 10; an unplaced
+# mark that nobody names is none
 for calls in (
     lambda: (mark(0), direct(0, 8), direct(1, 8), direct(2, 8)),
     lambda: (mark(0), delta(0, 1, 8)),
@@ -698,6 +699,30 @@ for calls in (
     new()
     calls()
     coded()
+
+# numbers 8, 17 and 18, of the first section with one, in assembly, settling and the write: a delta before a direct reference, the other way
+# round, both ends absent, one mark as both ends, a start or an end placed behind the delta; raw and pushed; 7 before, 9 and 16 behind
+for calls in (
+    lambda: (mark(0), delta(1, 0, 8), direct(2, 8)),
+    lambda: (mark(0), delta(0, 1, 0), direct(2, 0)),
+    lambda: (mark(0), direct(2, 8), delta(1, 0, 8)),
+    lambda: (mark(0), direct(2, 0), delta(0, 1, 0)),
+    lambda: (delta(0, 1, 8), mark(2)),
+    lambda: (op(0), delta(1, 0, 2)),
+    lambda: (delta(0, 0, 8), mark(1)),
+    lambda: (mark(0), delta(0, 1, 9), delta(1, 0, 9)),
+    lambda: (mark(0), delta(1, 0, 9), delta(0, 1, 9)),
+    lambda: (delta(0, 1, 8), mark(0)),
+    lambda: (delta(0, 1, 8), mark(1)),
+    lambda: (mark(0), delta(1, 0, 8), mark(TABLE)),
+    lambda: (mark(0), op(0), mark(0), delta(0, 1, 8)),
+):
+    new()
+    calls()
+    coded()
+    settle()
+    step(26, 0, 2)
+    write()
 
 # number 9: bytes between a placing and an earlier one; empty sections and marks are none; before 10
 for calls in (

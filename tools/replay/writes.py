@@ -119,7 +119,7 @@ def full(result):
 
 
 def earlier(table):
-    """Numbers 6 to 9, which no table and no position can hide."""
+    """Numbers 6 to 9, 17 and 18, which no table and no position can hide."""
     any_table = lambda answer: [({}, 0, answer), ({0: 0, 1: 0}, 0, answer), ({0: 1, 1: TOP}, TOP, answer)]
     yield "6, counts", [(18, 1, 0)], any_table(refused(6))
     yield "6, too many sections", [(18, 0, TOP)], any_table(refused(6))
@@ -129,8 +129,17 @@ def earlier(table):
     for call in (mark(table), direct(table, 0), delta(table, 0, 8), delta(0, table, 8), mark(model.MAX_MARK)):
         yield f"7 before an earlier 8, {call}", [direct(5, 8), mark(0), op, mark(0), call], any_table(refused(7, 4))
     yield "8 before 9", [mark(0), op, mark(0), direct(5, 1)], any_table(refused(8, 3))
-    yield "8, a start", [mark(0), delta(5, 0, 8)], any_table(refused(8, 1))
-    yield "8, an end", [mark(0), delta(0, 5, 8)], any_table(refused(8, 1))
+    yield "17 before 9", [mark(0), op, mark(0), delta(5, 0, 8)], any_table(refused(17, 3))
+    yield "18 before 9", [mark(0), op, mark(0), delta(0, 5, 8)], any_table(refused(18, 3))
+    yield "17, a start", [mark(0), delta(5, 0, 8)], any_table(refused(17, 1))
+    yield "18, an end", [mark(0), delta(0, 5, 8)], any_table(refused(18, 1))
+    yield "17, both ends", [mark(0), delta(5, 6, 1)], any_table(refused(17, 1))
+    yield "17, one mark as both ends", [mark(0), delta(5, 5, 0)], any_table(refused(17, 1))
+    yield "18, a start behind it", [delta(0, 5, 8), mark(0)], any_table(refused(18))
+    yield "17 before a later 8", [mark(0), delta(5, 0, 8), direct(5, 8)], any_table(refused(17, 1))
+    yield "18 before a later 8", [mark(0), delta(0, 5, 8), direct(5, 8)], any_table(refused(18, 1))
+    yield "8 before a later 17", [mark(0), direct(5, 8), delta(5, 0, 8)], any_table(refused(8, 1))
+    yield "8 before a later 18", [mark(0), direct(5, 8), delta(0, 5, 8)], any_table(refused(8, 1))
     yield "9 before 16", [mark(0), op, mark(0)], any_table(refused(9, 2))
     tries = [*any_table(refused(9, 4)), ({0: 256}, 0, refused(9, 4))]
     yield "9 before 10", [direct(0, 9), data(256), mark(0), direct(0, 0), mark(0)], tries

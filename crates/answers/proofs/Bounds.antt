@@ -20,6 +20,7 @@ use Rattle.records.specs.declared.damage.Soundness.the-variants.{Sound, Damaged
 use Rattle.undamaged.specs.View.{Undamaged}
 use Rattle.undamaged.proofs.Soundness.{undamaged-iff, damaged-at-iff}
 use Rattle.layout.specs.Passes.{entry, valueBy, Walked, leftAt, walkFrom, pass}
+use Rattle.layout.specs.Conditions.{directMark, deltaStart, deltaEnd}
 use Rattle.layout.specs.Answer as layout
 use Rattle.layout.specs.Answer.{laidOut, noLayout, Says}
 use Rattle.settling.specs.Settle.{settling}
@@ -68,7 +69,9 @@ layout-packs : (n : ℕ) (ss : List Section) (r : layout.LayoutRefusal) → leng
     → AssembledPacks (numbersReply (layout.layoutNumbers r))
 unfolding pass
 layout-packs n ss (layout.shortTable i) l h = (omega arith, (omega arith, omega arith, omega (arith, h .0)))
-layout-packs n ss (layout.unplaced i) l h = (omega arith, (omega arith, omega arith, omega (arith, h .1 .0)))
+layout-packs n ss (layout.unplaced directMark i) l h = (omega arith, (omega arith, omega arith, omega (arith, h .1 .0)))
+layout-packs n ss (layout.unplaced deltaStart i) l h = (omega arith, (omega arith, omega arith, omega (arith, h .1 .0)))
+layout-packs n ss (layout.unplaced deltaEnd i) l h = (omega arith, (omega arith, omega arith, omega (arith, h .1 .0)))
 layout-packs n ss (layout.placedApart i) l h = (omega arith, (omega arith, omega arith, omega (arith, h .2 .0)))
 layout-packs n ss (layout.tooNarrow i k) l h =
     (omega arith, (omega arith, omega (arith, h .1 .3), omega (arith, walk-below ss 0 0 false (h .1 .1) i (h .1 .5))))
@@ -121,7 +124,9 @@ module _ (w : ℕ) (st : Store) (n : ℕ) where
 table-packs : (table : List ℕ) (ss : List Section) (r : tests.TableRefusal) → length ss < 2 ^ 32 → TableSays table ss (tests.refuses r)
     → AssembledPacks (numbersReply (tests.tableNumbers r))
 table-packs table ss (tests.shortTable i) l h = (omega arith, (omega arith, omega arith, omega (arith, h .0)))
-table-packs table ss (tests.unplaced i) l h = (omega arith, (omega arith, omega arith, omega (arith, h .1 .0)))
+table-packs table ss (tests.unplaced directMark i) l h = (omega arith, (omega arith, omega arith, omega (arith, h .1 .0)))
+table-packs table ss (tests.unplaced deltaStart i) l h = (omega arith, (omega arith, omega arith, omega (arith, h .1 .0)))
+table-packs table ss (tests.unplaced deltaEnd i) l h = (omega arith, (omega arith, omega arith, omega (arith, h .1 .0)))
 table-packs table ss (tests.placedApart i) l h = (omega arith, (omega arith, omega arith, omega (arith, h .2 .0)))
 table-packs table ss (tests.differs i) l h = (omega arith, (omega arith, omega arith, omega (arith, h .1 .1 .0)))
 table-packs table ss (tests.tooNarrow i) l h = (omega arith, (omega arith, omega arith, omega (arith, h .1 .0)))

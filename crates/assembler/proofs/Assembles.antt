@@ -64,7 +64,7 @@ module _ (w : ℕ) (st : Store) (n : ℕ) (result : List ℕ) (position : ℕ) w
 
   -- what the settling answered, s, as the code has it
   module _ {s : Settled} (table′ : List ℕ) (said : settledReply s ≡ settling w n st .reply) (left : table′ ≡ settling w n st .table) where
-    -- 6 to 12
+    -- 6 to 12, 17, 18
     pub kept-refused : (r : Refusal) → s ≡ Refused r → Kept (refusalReply r) table′ result
     kept-refused r e =
         let same : settling w n st .reply ≡ refusalReply r = sym said ∙ ap settledReply e in

@@ -1,9 +1,9 @@
--- The law of each answer of assembly: 6 to 13 and written, each exactly in its stated condition. Assumes nothing.
+-- The law of each answer of assembly: 6 to 13, 17, 18 and written, each exactly in its stated condition. Assumes nothing.
 use Prim.Native.Nat.{ℕ}
 use native.Mathlib.Omega.{arith}
 use mathlib.Core.Path.{_≡_, refl, sym, ap, _∙_, subst}
 use mathlib.Core.Bool.{Bool, true, false, cond}
-use mathlib.Core.Logic.{_↔_, inr}
+use mathlib.Core.Logic.{_↔_, Iff·trans, inr}
 use mathlib.Core.List.{List}
 use lib.Dec.{eqb}
 use lib.ListN.{length}
@@ -12,10 +12,11 @@ use Rattle.units.specs.Reply.{Reply, accepted, refused}
 use Rattle.records.specs.Store.{Store}
 use Rattle.records.specs.Sections.{decode}
 use Rattle.layout.specs.Passes.{entry}
+use Rattle.layout.specs.Conditions.{Missing}
 use Rattle.layout.specs.Answer as layout
 use Rattle.settling.specs.SettlingAnswers as settling
-use Rattle.settling.specs.SettlingAnswers.{SettlingSays}
-use Rattle.settling.proofs.SettlingLaw.{refusalAt, refusal-back, sound-answered, settling-said, settling-law}
+use Rattle.settling.specs.SettlingAnswers.{SettlingSays, StoreMisses}
+use Rattle.settling.proofs.SettlingLaw.{refusalAt, refusal-back, sound-answered, settling-said, settling-law, misses-law}
 use Rattle.assembler.specs.Assemble.{Outcome, isFull, assembly}
 use Rattle.assembler.specs.AssemblyAnswers.{AssemblyAnswer, written, damaged, noLayout, resultFull, assemblyReply, AnswerSays, CodePasses}
 use Rattle.assembler.specs.Emission.{codeOf}
@@ -99,6 +100,10 @@ module _ (w : ℕ) (st : Store) (n : ℕ) (result : List ℕ) (position : ℕ) w
         subst Said (sym (answer-back (said .0)) ∙ ap answerOf same ∙ answer-back a) (said .1),
     says-replied a,
   )
+
+  -- 8, 17 and 18 as of settling
+  pub assembly-missing : (x : Missing) (i : ℕ) → (assembly w st n result position .reply ≡ refused (layout.missingNumber x) i 0) ↔ StoreMisses w st n i x
+  assembly-missing x i = Iff·trans (assembly-law (noLayout (layout.unplaced x i))) (misses-law w n st x i)
 
   -- 13 is answered exactly when the code or the position passes the result; its section is 0
   pub full-exactly : (i k : ℕ) → (assembly w st n result position .reply ≡ refused number.resultFull i k) ↔ ((i ≡ 0) × CodePasses w st n (length result) position k)

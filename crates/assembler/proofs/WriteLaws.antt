@@ -1,10 +1,10 @@
 -- What a write comes to, by what the tests of store and table answer and whether the result is full; the law of each of its answers, 6 to
--- 10, 12, 13, 16 and written; what it leaves, and what holds of the written code, from whatever table. Assumes nothing.
+-- 10, 12, 13, 16 to 18 and written; what it leaves, and what holds of the written code, from whatever table. Assumes nothing.
 use Prim.Native.Nat.{ℕ, _+_, _≤_, _<_}
 use native.Mathlib.Omega.{arith}
 use mathlib.Core.Path.{_≡_, refl, sym, ap, _∙_, subst}
 use mathlib.Core.Bool.{Bool, true, false, cond}
-use mathlib.Core.Logic.{_↔_, inr}
+use mathlib.Core.Logic.{_↔_, Iff·trans, inr}
 use mathlib.Core.List.{List}
 use lib.Dec.{eqb}
 use lib.ListN.{length}
@@ -17,11 +17,13 @@ use Rattle.undamaged.specs.View.{Facts}
 use Rattle.undamaged.proofs.Soundness.{undamaged-iff}
 use Rattle.layout.specs.Layout.{Layout, inAll, GivesEnough}
 use Rattle.layout.specs.Passes.{entry}
-use Rattle.layout.specs.Conditions.{Never, unplacedAt, backwardAt}
-use Rattle.layout.specs.Answer.{Laid}
+use Rattle.layout.specs.Conditions.{Never, unplacedAt, Missing, directMark, deltaStart, deltaEnd, backwardAt}
+use Rattle.layout.specs.Answer.{Laid, missingNumber}
 use Rattle.layout.proofs.Moves.{Still}
 use Rattle.layout.proofs.Rule.{Sizes}
 use Rattle.layout.proofs.WidthRule.{widthRule}
+use Rattle.settling.specs.SettlingAnswers.{StoreMisses}
+use Rattle.settling.proofs.SettlingLaw.{misses-law}
 use Rattle.tables.specs.TableTests.{TableRefusal, tableNumbers, tableTest}
 use Rattle.tables.specs.TableTests as tests
 use Rattle.tables.specs.TableAnswers as test
@@ -89,7 +91,9 @@ answerOf (refused number i k) = cond (eqb number 13) resultFull (ofTest (law.ans
 -- no refusal of the tests is 13, or has passes
 test-numbers : (r : TableRefusal) → (eqb (tableNumbers r .number) 13 ≡ false) × (tableNumbers r .passes ≡ 0)
 test-numbers (tests.shortTable i) = (refl, refl)
-test-numbers (tests.unplaced i) = (refl, refl)
+test-numbers (tests.unplaced directMark i) = (refl, refl)
+test-numbers (tests.unplaced deltaStart i) = (refl, refl)
+test-numbers (tests.unplaced deltaEnd i) = (refl, refl)
 test-numbers (tests.placedApart i) = (refl, refl)
 test-numbers (tests.differs i) = (refl, refl)
 test-numbers (tests.tooNarrow i) = (refl, refl)
@@ -200,6 +204,10 @@ module _ (w : ℕ) (st : Store) (table result : List ℕ) (position : ℕ) where
         subst Said (sym (answer-back (said .0)) ∙ ap answerOf same ∙ answer-back a) (said .1),
     says-replied a,
   )
+
+  -- 8, 17 and 18 as of settling, by a table of this length
+  pub write-missing : (x : Missing) (i : ℕ) → (writeBy w st table result position .reply ≡ refused (missingNumber x) i 0) ↔ StoreMisses w st (length table) i x
+  write-missing x i = Iff·trans (write-law (refuses (tests.unplaced x i))) (misses-law w (length table) st x i)
 
   -- 13 is answered exactly when the tests accept the table and the code or the position passes the result; its section and passes are 0
   pub write-full-exactly : (i k : ℕ) → (writeBy w st table result position .reply ≡ refused number.resultFull i k)

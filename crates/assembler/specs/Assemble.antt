@@ -1,5 +1,5 @@
 -- Document 01, modules 3 and 4 and 'Replies': assembly as one definition, from a store, a lent table's length, a lent result and a
--- position to the answer, the table and the result. Refusals 6 to 13 in order. Assumes nothing.
+-- position to the answer, the table and the result. Refusals 6 to 13 in order, 17 and 18 in 8's place. Assumes nothing.
 use Prim.Native.Nat.{ℕ, _-_}
 use mathlib.Core.Bool.{Bool, cond, _||_}
 use mathlib.Core.List.{List}
@@ -48,6 +48,6 @@ writing n result position ss table (accepted laid) =
     (refusal n result (refused resultFull 0 (laid .passes)))
     (record { reply = accepted laid; table = table; result = over result position (codeOf (entry table) ss) })
 
--- assembly of a store, w words a section, by a table of length n: settling, 6 to 12; then 13; then the code
+-- assembly of a store, w words a section, by a table of length n: settling, 6 to 12, 17 and 18; then 13; then the code
 unfoldable pub assembly : ℕ → Store → ℕ → List ℕ → ℕ → Outcome
 assembly w st n result position = writing n result position (decode w st) (settling w n st .table) (settling w n st .reply)

@@ -1,5 +1,5 @@
--- Document 01, 'Replies': the condition of each answer of assembly, 6 to 13. 'Each number comes in its stated condition and in no other':
--- that it is given exactly then is `assembly-law` of proofs/AssemblyAnswers. Assumes nothing.
+-- Document 01, 'Replies', and document 02, request 5: the condition of each answer of assembly, 6 to 13, 17 and 18. 'Each number comes in its
+-- stated condition and in no other': that it is given exactly then is `assembly-law` of proofs/AssemblyAnswers. Assumes nothing.
 use Prim.Native.Nat.{ℕ, _+_, _≤_, _<_}
 use mathlib.Core.Path.{_≡_}
 use mathlib.Core.Logic.{_⊎_}
@@ -22,7 +22,7 @@ pub data AssemblyAnswer : Type 0 where
   written : ℕ → ℕ → AssemblyAnswer
   -- 6: the section
   damaged : ℕ → AssemblyAnswer
-  -- 7 to 12
+  -- 7 to 12, 17, 18
   noLayout : layout.LayoutRefusal → AssemblyAnswer
   -- 13: the passes made
   resultFull : ℕ → AssemblyAnswer
@@ -34,7 +34,7 @@ assemblyReply (damaged i) = refused number.damaged i 0
 assemblyReply (noLayout r) = numbersReply (layout.layoutNumbers r)
 assemblyReply (resultFull k) = refused number.resultFull 0 k
 
--- the condition of each answer, room being the result's length; 6 to 12 as of settling
+-- the condition of each answer, room being the result's length; 6 to 12, 17 and 18 as of settling
 abbrev pub AnswerSays : ℕ → Store → ℕ → ℕ → ℕ → AssemblyAnswer → Type 0
 AnswerSays w st n room position (written size k) = SettlingSays w st n (settling.laidOut size k) × (position + size ≤ room)
 AnswerSays w st n room position (damaged i) = SettlingSays w st n (settling.damaged i)
@@ -42,7 +42,7 @@ AnswerSays w st n room position (noLayout r) = SettlingSays w st n (settling.noL
 -- 13: 'the code passes the result, or the position does'
 AnswerSays w st n room position (resultFull k) = (size : ℕ) × SettlingSays w st n (settling.laidOut size k) × (room < position + size)
 
--- 13 once more, by the code itself: 6 to 12 don't hold, and 'the code passes the result, or the position does'. It is answered exactly
+-- 13 once more, by the code itself: 6 to 12, 17 and 18 don't hold, and 'the code passes the result, or the position does'. It is answered exactly
 -- then (`full-exactly` of proofs/AssemblyAnswers).
 abbrev pub CodePasses : ℕ → Store → ℕ → ℕ → ℕ → ℕ → Type 0
 CodePasses w st n room position passes =

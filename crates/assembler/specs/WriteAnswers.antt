@@ -23,7 +23,7 @@ pub data WriteAnswer : Type 0 where
   written : ℕ → WriteAnswer
   -- 6: the section
   damaged : ℕ → WriteAnswer
-  -- 7, 8, 9, 16 or 10, 12
+  -- 7; 8, 17 or 18; 9; 16 or 10; 12
   refuses : TableRefusal → WriteAnswer
   -- 13
   resultFull : WriteAnswer

@@ -19,15 +19,16 @@ ghost use Rattle.assembler.specs.TightAssembly.{AssemblesWithin, Assembl
 ghost use Rattle.assembler.specs.Write.{writeBy};
 ghost use Rattle.assembler.specs.Pair.{WritesDemand3, WritesEnough};
 
-// Written: the code's length and the passes made; or a refusal, with the result unchanged: of assembly 6 to 13, with the table all 0; of a
-// write 6 to 10, 12, 13 or 16.
+// Written: the code's length and the passes made; or a refusal, with the result unchanged: of assembly 6 to 13, 17 or 18, with the table
+// all 0; of a write 6 to 10, 12, 13 or 16 to 18.
 pub enum Assembled {
     Written { length: u32, passes: u32 },
     Refused(Refusal),
 }
 
 // Settles the store's sections and writes their code into the result from the position on. Refusals: 6 damaged, 7 short table,
-// 8 unplaced, 9 placed apart, 10 too narrow, 11 unsettled, 12 backward, 13 result full.
+// 8 a direct reference's mark unplaced, 17 a delta's start, 18 its end, 9 placed apart, 10 too narrow, 11 unsettled, 12 backward, 13 result
+// full.
 pub fn assemble(
     store: Assembler,
     bytes: &[u8],
@@ -77,8 +78,8 @@ pub fn assemble(
 }
 
 // Writes a store's code into the result from the position on, by a table that may come from anyone and is only read. Refusals: 6 damaged,
-// 7 short table, 8 unplaced, 9 placed apart, 16 an entry that differs or 10 too narrow, 12 backward, 13 result full, with nothing changed;
-// passes are 0 in every answer.
+// 7 short table, 8 a direct reference's mark unplaced, 17 a delta's start, 18 its end, 9 placed apart, 16 an entry that differs or 10 too
+// narrow, 12 backward, 13 result full, with nothing changed; passes are 0 in every answer.
 pub fn write(
     store: Assembler,
     bytes: &[u8],

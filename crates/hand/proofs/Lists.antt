@@ -13,6 +13,7 @@ use Rattle.units.specs.declared.MarkReference.the-variants.{Direct, Delta}
 use Rattle.records.specs.Sections.{Section, mark, bytes, reference}
 use Rattle.slices.specs.First.{leastFrom}
 use Rattle.layout.specs.Passes.{startFrom, start, walkFrom, pass, passes, settle}
+use Rattle.layout.specs.Conditions.{directMark, deltaStart, deltaEnd, missingAt}
 use Rattle.layout.specs.Conditions.{placed, shortAt, firstShort, unplacedAt, firstUnplaced, someBytes, apartAt, firstApart, backwardAt, firstBackward}
 use Rattle.layout.specs.Answer.{shortTable, unplaced, placedApart, tooNarrow as narrowAnswer, Answer, laidOut, noLayout, answer}
 
@@ -46,7 +47,15 @@ lines =
     ∷ tried 1 (mark 0 ∷ direct true Unsized 0 ∷ mark 0 ∷ []) (noLayout (placedApart 2))
     -- 7 at section 2 comes before 8 at section 0
     ∷ tried 1 (direct true Unsized 0 ∷ delta 0 0 ∷ mark 1 ∷ []) (noLayout (shortTable 2))
-    ∷ tried 2 (direct true Unsized 0 ∷ delta 0 0 ∷ mark 1 ∷ []) (noLayout (unplaced 0))
+    ∷ tried 2 (direct true Unsized 0 ∷ delta 0 0 ∷ mark 1 ∷ []) (noLayout (unplaced directMark 0))
+    -- 8, 17 and 18 by the first section with an unplaced mark: a delta's end before a direct reference, a direct reference before a delta
+    ∷ tried 3 (mark 0 ∷ delta 0 1 ∷ direct true Unsized 2 ∷ []) (noLayout (unplaced deltaEnd 1))
+    ∷ tried 3 (mark 0 ∷ direct true Unsized 2 ∷ delta 1 0 ∷ []) (noLayout (unplaced directMark 1))
+    -- a delta's start; both ends; one mark as both ends; a start that is placed behind the delta
+    ∷ tried 2 (mark 0 ∷ delta 1 0 ∷ []) (noLayout (unplaced deltaStart 1))
+    ∷ tried 2 (delta 0 1 ∷ []) (noLayout (unplaced deltaStart 0))
+    ∷ tried 1 (delta 0 0 ∷ []) (noLayout (unplaced deltaStart 0))
+    ∷ tried 2 (delta 0 1 ∷ mark 0 ∷ []) (noLayout (unplaced deltaEnd 0))
     ∷ []
 
 -- the answers of a list of lines are those expected
@@ -55,5 +64,5 @@ AsExpected ts = map (λ (t : Tried). answer (t .marks) (t .sections)) ts ≡ map
 
 -- each line's answer is the one expected
 pub tried-lists : AsExpected lines
-unfolding answer settle passes pass walkFrom start startFrom firstShort shortAt firstUnplaced unplacedAt firstApart apartAt firstBackward backwardAt leastFrom placed someBytes leastSize size tooNarrow heldBytes
+unfolding answer settle passes pass walkFrom start startFrom firstShort shortAt firstUnplaced unplacedAt missingAt firstApart apartAt firstBackward backwardAt leastFrom placed someBytes leastSize size tooNarrow heldBytes
 tried-lists = refl

@@ -13,6 +13,7 @@ use Rattle.records.specs.Sections.{Section, mark, bytes}
 use Rattle.slices.specs.First.{leastFrom}
 use Rattle.layout.specs.Layout.{total}
 use Rattle.layout.specs.Passes.{startFrom, start, walkFrom, pass, passes, settle}
+use Rattle.layout.specs.Conditions.{directMark, deltaStart, deltaEnd, missingAt}
 use Rattle.layout.specs.Conditions.{placed, shortAt, firstShort, unplacedAt, firstUnplaced, someBytes, apartAt, firstApart, backwardAt, firstBackward, sumOf, deltaAt}
 use Rattle.layout.specs.Shortest.{settledLayout, LeastLayout}
 use Rattle.layout.specs.Answer.{Answer, laidOut, answer, answerReply, answerTable}
@@ -54,15 +55,18 @@ lines =
     -- a backward delta reads 0 in the walk, so it is one byte; 16 behind it comes before 12
     ∷ tried (0 ∷ 1 ∷ 2 ∷ []) turned (refuses (backward 3))
     ∷ tried (0 ∷ 1 ∷ 3 ∷ []) turned (refuses (differs 4))
-    -- 7, 8 and 9 come before 16; 8 whatever the entry of the mark that is never placed
+    -- 7, 8, 17, 18 and 9 come before 16; 8, 17 and 18 whatever the entry of the mark that is never placed
     ∷ tried (1 ∷ []) (mark 0 ∷ mark 1 ∷ []) (refuses (shortTable 1))
-    ∷ tried (1 ∷ 7 ∷ []) (mark 0 ∷ direct true Unsized 1 ∷ []) (refuses (unplaced 1))
+    ∷ tried (1 ∷ 7 ∷ []) (mark 0 ∷ direct true Unsized 1 ∷ []) (refuses (unplaced directMark 1))
+    ∷ tried (1 ∷ 7 ∷ []) (mark 0 ∷ delta 1 0 ∷ direct true Unsized 1 ∷ []) (refuses (unplaced deltaStart 1))
+    ∷ tried (1 ∷ 7 ∷ []) (mark 0 ∷ delta 0 1 ∷ direct true Unsized 1 ∷ []) (refuses (unplaced deltaEnd 1))
+    ∷ tried (1 ∷ 7 ∷ []) (mark 0 ∷ delta 1 1 ∷ []) (refuses (unplaced deltaStart 1))
     ∷ tried (1 ∷ []) (mark 0 ∷ bytes (0 ∷ []) ∷ mark 0 ∷ []) (refuses (placedApart 2))
     ∷ []
 
 -- each line's answer is the one expected
 pub tried-tables : map (λ (t : TriedTable). tableAnswer (t .table) (t .sections)) lines ≡ map (λ (t : TriedTable). t .expected) lines
-unfolding tableAnswer firstWrong differsAt tooNarrowAt firstShort shortAt firstUnplaced unplacedAt firstApart apartAt firstBackward backwardAt leastFrom placed someBytes sumOf size tooNarrow heldBytes
+unfolding tableAnswer firstWrong differsAt tooNarrowAt firstShort shortAt firstUnplaced unplacedAt missingAt firstApart apartAt firstBackward backwardAt leastFrom placed someBytes sumOf size tooNarrow heldBytes
 tried-tables = refl
 
 -- the table 255 is settled for line 6

@@ -13,7 +13,7 @@ use Rattle.records.specs.Damage.{endBefore, spansEnd, breaksRule, badCount, bro
 use Rattle.records.specs.Sections.{decodeAt, decodeFrom, decode}
 use Rattle.calls.specs.Calls.{joins, withSection, bytesPass, noSectionLeft, sectionPasses, roomReply, addReply, pushReply, pushAfter, allReply}
 use Rattle.layout.specs.Passes.{startFrom, start, walkFrom, pass, passes, settle}
-use Rattle.layout.specs.Conditions.{placed, shortAt, firstShort, unplacedAt, firstUnplaced, someBytes, apartAt, firstApart, backwardAt, firstBackward}
+use Rattle.layout.specs.Conditions.{placed, shortAt, firstShort, unplacedAt, firstUnplaced, missingAt, someBytes, apartAt, firstApart, backwardAt, firstBackward}
 use Rattle.layout.specs.Answer.{answer}
 use Rattle.settling.specs.Settle.{settling}
 use Rattle.assembler.specs.Emission.{referenceBytes, inARow}
@@ -69,8 +69,17 @@ late-field = refl
 -- the section and not the step: two op bytes are section 0, a reference to a mark that isn't placed is section 1
 pub section-text :
     jobText wordsPerSection (field 0 ++ field 3 ++ step 2 0x60 0 ++ step 2 1 0 ++ step 4 7 8) (small 2 3 8 4) ≡ asBytes "refused 8 at 1\n"
-unfolding asBytes number numberAfter stepsFrom isListed allListed isJob stepCall builtBy jobResult refusedText decimal lastDigits allReply pushReply pushAfter addReply roomReply withSection joins bytesPass sectionPasses noSectionLeft referenceWords lastSoundness badCountBuilding lastBroken assembly settling wholeSoundness badCount badCounts brokenReply breaksRule endBefore spansEnd leastFrom decode decodeFrom decodeAt readSection readMark readSpan readDirect readDelta setSizeOf answer firstShort shortAt firstUnplaced unplacedAt placed
+unfolding asBytes number numberAfter stepsFrom isListed allListed isJob stepCall builtBy jobResult refusedText decimal lastDigits allReply pushReply pushAfter addReply roomReply withSection joins bytesPass sectionPasses noSectionLeft referenceWords lastSoundness badCountBuilding lastBroken assembly settling wholeSoundness badCount badCounts brokenReply breaksRule endBefore spansEnd leastFrom decode decodeFrom decodeAt readSection readMark readSpan readDirect readDelta setSizeOf answer firstShort shortAt firstUnplaced unplacedAt missingAt placed
 section-text = refl
+
+-- a delta whose end is placed and whose start isn't: 17 at its section; the other way round: 18
+pub start-text : jobText wordsPerSection (field 0 ++ field 2 ++ step 1 0 0 ++ step 40 7 0) (small 0 2 8 4) ≡ asBytes "refused 17 at 1\n"
+unfolding asBytes number numberAfter stepsFrom isListed allListed isJob stepCall builtBy jobResult refusedText decimal lastDigits allReply pushReply pushAfter addReply roomReply withSection joins bytesPass sectionPasses noSectionLeft referenceWords lastSoundness badCountBuilding lastBroken assembly settling wholeSoundness badCount badCounts brokenReply breaksRule endBefore spansEnd leastFrom decode decodeFrom decodeAt readSection readMark readSpan readDirect readDelta setSizeOf answer firstShort shortAt firstUnplaced unplacedAt missingAt placed
+start-text = refl
+
+pub end-text : jobText wordsPerSection (field 0 ++ field 2 ++ step 1 0 0 ++ step 40 0 7) (small 0 2 8 4) ≡ asBytes "refused 18 at 1\n"
+unfolding asBytes number numberAfter stepsFrom isListed allListed isJob stepCall builtBy jobResult refusedText decimal lastDigits allReply pushReply pushAfter addReply roomReply withSection joins bytesPass sectionPasses noSectionLeft referenceWords lastSoundness badCountBuilding lastBroken assembly settling wholeSoundness badCount badCounts brokenReply breaksRule endBefore spansEnd leastFrom decode decodeFrom decodeAt readSection readMark readSpan readDirect readDelta setSizeOf answer firstShort shortAt firstUnplaced unplacedAt missingAt placed
+end-text = refl
 
 -- no input, and a count that ends early
 pub empty-text : jobText wordsPerSection [] (small 0 0 0 0) ≡ asBytes "refused 15 at 0\n"

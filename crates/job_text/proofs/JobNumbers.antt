@@ -25,6 +25,7 @@ use Rattle.calls.proofs.Refusals.{accepted-refused, accepted-added, all-refused
 use Rattle.calls.proofs.Rooms.{left-slice}
 use Rattle.calls.proofs.Calls.{call-kept, emptied-undamaged, emptied-decode, all-accepted, call-undamaged}
 use Rattle.calls.proofs.Runs.{each-run, all-stored}
+use Rattle.layout.specs.Conditions.{directMark, deltaStart, deltaEnd}
 use Rattle.layout.specs.Answer.{LayoutRefusal, shortTable, unplaced, placedApart, tooNarrow, unsettled, backward, layoutNumbers}
 use Rattle.layout.specs.Answer.{Answer, laidOut, noLayout, answer, answerReply, answerTable}
 use Rattle.settling.proofs.SettlingLaw.{sound-settles}
@@ -106,26 +107,34 @@ pub assembly-by-list : (st : Store) (n : ℕ) (result : List ℕ) → Undamaged 
 unfolding assembly
 assembly-by-list st n result u = rw (sound-settles wordsPerSection n st u)
 
--- a refusal of the layout is 7 to 12
+-- a refusal of the layout is 7 to 12, 17 or 18
 layout-late : (r : LayoutRefusal) → LateRefusal (layoutNumbers r .number)
-layout-late (shortTable i) = (omega arith, omega arith)
-layout-late (unplaced i) = (omega arith, omega arith)
-layout-late (placedApart i) = (omega arith, omega arith)
-layout-late (tooNarrow i k) = (omega arith, omega arith)
-layout-late unsettled = (omega arith, omega arith)
-layout-late (backward i k) = (omega arith, omega arith)
+layout-late (shortTable i) = inl (omega arith, omega arith)
+layout-late (unplaced directMark i) = inl (omega arith, omega arith)
+layout-late (unplaced deltaStart i) = inr (inl refl)
+layout-late (unplaced deltaEnd i) = inr (inr refl)
+layout-late (placedApart i) = inl (omega arith, omega arith)
+layout-late (tooNarrow i k) = inl (omega arith, omega arith)
+layout-late unsettled = inl (omega arith, omega arith)
+layout-late (backward i k) = inl (omega arith, omega arith)
+
+-- it is no 5 and no 15
+late-other : (n : ℕ) → LateRefusal n → (n ≡ sectionsFull → ⊥) × (n ≡ badJob → ⊥)
+late-other n (inl h) = (λ e. omega arith, λ e. omega arith)
+late-other n (inr (inl h)) = (λ e. omega arith, λ e. omega arith)
+late-other n (inr (inr h)) = (λ e. omega arith, λ e. omega arith)
 
 -- refusals that are the same have the same number
 same-number : {A : Type 0} {m j l n i k : ℕ} → _≡_ {A = Reply A} (refused m j l) (refused n i k) → m ≡ n
 same-number e = cc
 
--- a refusal of assembly is 7 to 13
+-- a refusal of assembly is 7 to 13, 17 or 18
 writing-late : (m : ℕ) (result : List ℕ) (ss : List Section) (a : Answer) (n i k : ℕ)
     → writing m result 0 ss (answerTable m a) (answerReply a) .reply ≡ refused n i k → LateRefusal n
 writing-late m result ss (noLayout r) n i k e = subst LateRefusal (same-number e) (layout-late r)
 writing-late m result ss (laidOut table size passes) n i k e =
     cond-case (λ (o : Outcome). o .reply ≡ refused n i k → LateRefusal n) (isFull (length result) 0 size) _ _
-    (λ _ f. let same : resultFull ≡ n = same-number f in (omega arith, omega arith))
+    (λ _ f. let same : resultFull ≡ n = same-number f in inl (omega arith, omega arith))
     (λ _ f. let z : _≡_ {A = ℕ} 0 1 = cc in absurd (omega arith))
     e
 
@@ -240,14 +249,14 @@ fifteen-iff job lent i k = (
   job-cases job lent Says
       (λ e q. (e, cc, cc))
       (λ good n i′ k′ e q. absurd (omega (arith, calls-refuse job lent n i′ k′ good e .most, same-number q)))
-      (λ good a e q. absurd (omega (arith, built-late job lent a badJob i k e q .1))),
+      (λ good a e q. absurd (late-other badJob (built-late job lent a badJob i k e q) .1 refl)),
   λ (e, z, z′). ap (λ (m : JobResult). m .reply) (made-of-none job lent e) ∙ cc,
 )
   where
     Says : JobResult → Type 0
     Says m = m .reply ≡ refused badJob i k → (isJob job ≡ false) × (i ≡ 0) × (k ≡ 0)
 
--- a job is refused by 3, 4, 5 and 15 at 0, or by 7 to 13: never by 6; and never by 5 where there is a section for each step
+-- a job is refused by 3, 4, 5 and 15 at 0, or by 7 to 13, 17 or 18: never by 6; and never by 5 where there is a section for each step
 pub job-numbers : (job : List ℕ) (lent : LentSlices) → NumbersOf job lent
 job-numbers job lent =
     record {
@@ -260,5 +269,5 @@ job-numbers job lent =
           job-cases job lent (λ (m : JobResult). m .reply ≡ refused sectionsFull i k → ⊥)
           (λ e q. omega (arith, same-number q))
           (λ good n j l e q. omega (arith, calls-refuse job lent n j l good e .roomy has, same-number q))
-          (λ good a e q. omega (arith, built-late job lent a sectionsFull i k e q .0));
+          (λ good a e q. late-other sectionsFull (built-late job lent a sectionsFull i k e q) .0 refl);
     }

@@ -7,7 +7,7 @@ use mathlib.Core.Logic.{_↔_, _⊎_}
 use mathlib.Core.Bool.{true, false}
 use mathlib.Core.List.{List}
 use lib.ListN.{length}
-use Rattle.units.specs.Replies.{largeMark, bytesFull, sectionsFull, shortTable, resultFull}
+use Rattle.units.specs.Replies.{largeMark, bytesFull, sectionsFull, shortTable, resultFull, startUnplaced, endUnplaced}
 use Rattle.units.specs.Reply.{refused}
 use Rattle.records.specs.Store.{wordsPerSection}
 use Rattle.job_steps.specs.JobFormat.{stepCount, isJob, badJob}
@@ -29,9 +29,9 @@ HasSections job lent = isJob job ≡ true → wordsPerSection * stepCount job �
 abbrev pub EarlyRefusal : ℕ → ℕ → ℕ → Type 0
 EarlyRefusal n i k = ((n ≡ largeMark) ⊎ ((n ≡ bytesFull) ⊎ ((n ≡ sectionsFull) ⊎ (n ≡ badJob)))) × (i ≡ 0) × (k ≡ 0)
 
--- 7 to 13, of assembly
+-- 7 to 13, 17 or 18, of assembly
 abbrev pub LateRefusal : ℕ → Type 0
-LateRefusal n = (shortTable ≤ n) × (n ≤ resultFull)
+LateRefusal n = ((shortTable ≤ n) × (n ≤ resultFull)) ⊎ ((n ≡ startUnplaced) ⊎ (n ≡ endUnplaced))
 
 -- the numbers of a job's refusals
 pub record NumbersOf (job : List ℕ) (lent : LentSlices) : Type 0 where

@@ -46,8 +46,8 @@ fn result_buffer() -> [u8; RESULT_BYTES]
 }
 
 // Writes what is printed for a job to the text's start: the job run on 65,536 store bytes, 65,536 result bytes, a section for each step
-// and a table of 16,384 marks. Refusals: 15 no job; then 3 or 4 of the first refused call; then 7 to 13 of assembly. A text of fewer than
-// 131,078 bytes is too short: this is tested first, and nothing changes.
+// and a table of 16,384 marks. Refusals: 15 no job; then 3 or 4 of the first refused call; then 7 to 13, 17 or 18 of assembly. A text of
+// fewer than 131,078 bytes is too short: this is tested first, and nothing changes.
 pub fn write_text(job: &[u8], text: &mut [u8]) -> JobRun
     ensures answer { λ r.
         ⌜ answerOf r

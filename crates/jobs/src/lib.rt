@@ -40,8 +40,8 @@ const LONGEST_REFUSAL: usize = 25;
 
 // Runs a job on lent slices and writes its text to the start of the text buffer. Refusals: 15 no job, before any call, and no slice but
 // the text is changed; then that of the first refused call of its steps, and the store's slices are as the call before it left them;
-// then assembly's, 7 to 13, and the table is all 0, the result as it was. A text buffer shorter than the longest text, 131,078 bytes for
-// a result of 65,536, is tested first, and nothing changes.
+// then assembly's, 7 to 13, 17 or 18, and the table is all 0, the result as it was. A text buffer shorter than the longest text,
+// 131,078 bytes for a result of 65,536, is tested first, and nothing changes.
 pub fn run_job(
     job: &[u8],
     bytes: &mut [u8],

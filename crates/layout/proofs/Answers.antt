@@ -1,4 +1,5 @@
--- The law of each answer: settled, 10 and 11 by the pass that ended it; 7, 8, 9 and 12 by the first section concerned. Assumes nothing.
+-- The law of each answer: settled, 10 and 11 by the pass that ended it; 7, 8 with 17 and 18, 9 and 12 by the first section concerned.
+-- Assumes nothing.
 use Prim.Native.Nat.{ℕ, zero, suc, _+_, _-_, _<_}
 use native.Mathlib.Omega.{arith}
 use mathlib.Core.Path.{_≡_, refl, sym, _∙_, ap, subst}
@@ -10,8 +11,9 @@ use Rattle.units.specs.Replies.{maxPasses}
 use Rattle.records.specs.Sections.{Section}
 use Rattle.layout.specs.Passes.{start, Walked, through, leftAt, pass, Settling, settled, narrowAt, unsettled, ended, passes, settle}
 use Rattle.layout.specs.Conditions.{first, IsFirst, Never, shortAt, firstShort, unplacedAt, firstUnplaced, apartAt, firstApart, backwardAt, firstBackward, Moving, PassGoes, Means}
+use Rattle.layout.specs.Conditions.{Missing, missingAt}
 use Rattle.layout.specs.Answer.{LayoutRefusal, shortTable, unplaced, placedApart, tooNarrow, backward, Answer, laidOut, noLayout}
-use Rattle.layout.specs.Answer.{unsettled as unsettledAnswer, orElse, settlingAnswer, answer, Sound, Says}
+use Rattle.layout.specs.Answer.{unsettled as unsettledAnswer, orElse, missed, settlingAnswer, answer, Sound, Says}
 use Rattle.layout.proofs.Least.{first-law, first-or-never, first-hit, first-miss}
 
 -- ---- settled, 10, 11
@@ -121,14 +123,14 @@ module _ (n : ℕ) (ss : List Section) where
   pub settle-law : (a : Settling) → (settle n ss ≡ a) ↔ Means n ss a
   settle-law a = (λ h. subst (Means n ss) h means, answers a)
 
--- ---- 7, 8, 9, 12
+-- ---- 7; 8, 17, 18; 9; 12
 
 -- 7: the first section with a mark at or past the table's length
 pub short-law : (n : ℕ) (ss : List Section) (i : ℕ) → ((firstShort n ss ≡ i) × (i < length ss)) ↔ IsFirst ss (shortAt n ss) i
 unfolding firstShort
 short-law n ss = first-law ss (shortAt n ss)
 
--- 8: the first reference with a mark that is never placed
+-- 8, 17 or 18: the first reference with a mark that is never placed
 pub unplaced-law : (ss : List Section) (i : ℕ) → ((firstUnplaced ss ≡ i) × (i < length ss)) ↔ IsFirst ss (unplacedAt ss) i
 unfolding firstUnplaced
 unplaced-law ss = first-law ss (unplacedAt ss)
@@ -155,11 +157,11 @@ miss : (ss : List Section) (test : ℕ → Bool) (refusal : ℕ → LayoutRefusa
 miss ss test refusal next h = first-miss ss test (λ j. noLayout (refusal j)) next h
 
 module _ (n : ℕ) (ss : List Section) where
-  -- where 7, 8 and 9 aren't answered, the settling is
+  -- where 7, 8, 17, 18 and 9 aren't answered, the settling is
   pub sound-answer : Sound n ss → answer n ss ≡ settlingAnswer ss (settle n ss)
   unfolding answer firstShort firstUnplaced firstApart
   sound-answer h =
-      miss ss (shortAt n ss) shortTable _ (h .0) ∙ miss ss (unplacedAt ss) unplaced _ (h .1) ∙ miss ss (apartAt ss) placedApart _ (h .2)
+      miss ss (shortAt n ss) shortTable _ (h .0) ∙ miss ss (unplacedAt ss) (missed ss) _ (h .1) ∙ miss ss (apartAt ss) placedApart _ (h .2)
 
   -- what is said of an answer makes it the answer
   says-answer : (a : Answer) → Says n ss a → answer n ss ≡ a
@@ -167,9 +169,10 @@ module _ (n : ℕ) (ss : List Section) where
   says-answer (laidOut table sum k) h =
       sound-answer (h .0) ∙ ap (settlingAnswer ss) (settle-law n ss (settled table sum k) .1 (h .1)) ∙ miss ss (backwardAt table ss) (λ i. backward i k) _ (h .2)
   says-answer (noLayout (shortTable i)) h = hit ss (shortAt n ss) shortTable _ i h
-  says-answer (noLayout (unplaced i)) h = miss ss (shortAt n ss) shortTable _ (h .0) ∙ hit ss (unplacedAt ss) unplaced _ i (h .1)
+  says-answer (noLayout (unplaced x i)) h =
+      miss ss (shortAt n ss) shortTable _ (h .0) ∙ hit ss (unplacedAt ss) (missed ss) _ i (h .1) ∙ ap (λ (y : Missing). noLayout (unplaced y i)) (h .2)
   says-answer (noLayout (placedApart i)) h =
-      miss ss (shortAt n ss) shortTable _ (h .0) ∙ miss ss (unplacedAt ss) unplaced _ (h .1) ∙ hit ss (apartAt ss) placedApart _ i (h .2)
+      miss ss (shortAt n ss) shortTable _ (h .0) ∙ miss ss (unplacedAt ss) (missed ss) _ (h .1) ∙ hit ss (apartAt ss) placedApart _ i (h .2)
   says-answer (noLayout (tooNarrow i k)) h = sound-answer (h .0) ∙ ap (settlingAnswer ss) (settle-law n ss (narrowAt i k) .1 (h .1))
   says-answer (noLayout unsettledAnswer) h = sound-answer (h .0) ∙ ap (settlingAnswer ss) (settle-law n ss unsettled .1 (h .1))
   says-answer (noLayout (backward i k)) h =
@@ -194,7 +197,7 @@ module _ (n : ℕ) (ss : List Section) where
       apart h g (inr q) = settling-said (h, g, q) (settle n ss) (settle-law n ss (settle n ss) .0 refl)
 
       placing : Never ss (shortAt n ss) → ((i : ℕ) × IsFirst ss (unplacedAt ss) i) ⊎ Never ss (unplacedAt ss) → (b : Answer) × Says n ss b
-      placing h (inl q) = (noLayout (unplaced (q .0)), (h, q .1))
+      placing h (inl q) = (noLayout (unplaced (missingAt ss (q .0)) (q .0)), (h, q .1, refl))
       placing h (inr q) = apart h q (first-or-never ss (apartAt ss))
 
       short : ((i : ℕ) × IsFirst ss (shortAt n ss) i) ⊎ Never ss (shortAt n ss) → (b : Answer) × Says n ss b

@@ -1,21 +1,22 @@
--- The tests for 7, 8, 9 and 12 by positions in a list of sections. Assumes nothing.
+-- The tests for 7, 8 with 17 and 18, 9 and 12 by positions in a list of sections. Assumes nothing.
 use Prim.Native.Nat.{ℕ, zero, suc, _+_, _-_, _≤_, _<_, suc-le-suc}
 use native.Mathlib.Omega.{arith}
 use mathlib.Core.Path.{_≡_, refl, sym, _∙_, ap, subst}
-use mathlib.Core.Bool.{Bool, true, false, not, _||_, false≢true}
+use mathlib.Core.Bool.{Bool, true, false, cond, not, _||_, false≢true, true≢false}
 use mathlib.Core.Logic.{_↔_, _⊎_, inl, inr}
 use mathlib.Core.List.{List, [], _∷_}
 use lib.Dec.{leb}
 use lib.ListN.{length, take}
 use lib.Seq.{slice, length-slice, getD-drop, getD-take}
-use borrow.Author.Tests.{lt-ltb, ltb-true, le-leb, leb-true}
+use borrow.Author.Tests.{lt-ltb, ltb-true, le-leb, leb-true, not-true}
 use Rattle.units.specs.declared.MarkReference.{MarkReference}
 use Rattle.units.specs.declared.MarkReference.the-variants.{Direct, Delta}
 use Rattle.units.specs.declared.AsmReference.{AsmReference}
 use Rattle.records.specs.Sections.{Section, mark, ops, bytes, reference}
 use Rattle.layout.specs.Passes.{entry}
-use Rattle.layout.specs.Conditions.{sectionAt, placesSome, someMark, namesSome, refers, placed, shortAt, unplacedAt, hasBytes, someBytes, bytesBetween, apartAt, backwardBy, backwardAt}
-use Rattle.layout.specs.ConditionLaws.{Places, MarkOf, Names, HasBytes, BytesBetween, EndsBefore, ConditionLaws}
+use Rattle.layout.specs.Conditions.{sectionAt, IsFirst, placesSome, someMark, namesSome, refers, placed, shortAt, unplacedAt, hasBytes, someBytes, bytesBetween, apartAt, backwardBy, backwardAt}
+use Rattle.layout.specs.Conditions.{Missing, directMark, deltaStart, deltaEnd, missingOf, missingIn, missingAt}
+use Rattle.layout.specs.ConditionLaws.{Places, Misses, FirstMisses, MarkOf, Names, HasBytes, BytesBetween, EndsBefore, ConditionLaws}
 use Rattle.layout.proofs.Apart.{placed-law, Parted, apart-parted}
 
 -- one of two tests holds
@@ -64,7 +65,7 @@ module _ (test : ℕ → Bool) where
       there (bytes bs) h = absurd (false≢true h)
       there (reference r) h = let q = some-mark (r .«mark_ref») .0 h in (q .0, r, refl, q .1, q .2)
 
--- ---- 7 and 8
+-- ---- 7; 8, 17 and 18
 
 module _ (ss : List Section) where
   -- 7
@@ -98,7 +99,7 @@ module _ (ss : List Section) where
       back true e h = let q = placed-law ss m .0 e in absurd (h (q .0) (q .1, q .2))
       back false e h = refl
 
-  -- 8
+  -- 8, 17 and 18
   unplaced-place : (i : ℕ) → i < length ss → (unplacedAt ss i ≡ true) ↔ ((m : ℕ) × Names ss i m × ((j : ℕ) → Places ss j m → ⊥))
   unfolding unplacedAt
   unplaced-place i l = (there, back)
@@ -110,6 +111,42 @@ module _ (ss : List Section) where
 
       back : (m : ℕ) × Names ss i m × ((j : ℕ) → Places ss j m → ⊥) → namesSome (λ m. not (placed ss m)) (sectionAt ss i) ≡ true
       back (m, (k, r, e, of), h) = names-some (λ m. not (placed ss m)) (sectionAt ss i) .1 (m, r, e, of, absent-law m .1 h)
+
+  -- which of the three
+  missing-place : (x : Missing) (i : ℕ) → ((unplacedAt ss i ≡ true) × (missingAt ss i ≡ x)) ↔ Misses ss i x
+  unfolding unplacedAt missingAt
+  missing-place x i = (λ (h, k). subst (Misses ss i) k (there (sectionAt ss i) refl h), back x)
+    where
+      there : (s : Section) → sectionAt ss i ≡ s → namesSome (λ m. not (placed ss m)) s ≡ true → Misses ss i (missingIn (placed ss) s)
+      there (mark m) e h = absurd (false≢true h)
+      there (ops bs) e h = absurd (false≢true h)
+      there (bytes bs) e h = absurd (false≢true h)
+      there (reference r) e h = go (r .«mark_ref») refl h
+        where
+          go : (mr : MarkReference) → r .«mark_ref» ≡ mr → someMark (λ m. not (placed ss m)) mr ≡ true → Misses ss i (missingOf (placed ss) mr)
+          go (Direct m) f h = (m, (r, e, f), absent-law (m .0) .0 h)
+          go (Delta d) f h = ends (placed ss (d .start .0)) refl h
+            where
+              ends : (b : Bool) → placed ss (d .start .0) ≡ b → (not b || not (placed ss (d .end .0))) ≡ true → Misses ss i (cond b deltaEnd deltaStart)
+              ends true q h = let at = placed-law ss (d .start .0) .0 q in (d, (r, e, f), (at .0, (at .1, at .2)), absent-law (d .end .0) .0 h)
+              ends false q h = (d, (r, e, f), absent-law (d .start .0) .0 (ap not q))
+
+      back : (x : Missing) → Misses ss i x
+          → (namesSome (λ m. not (placed ss m)) (sectionAt ss i) ≡ true) × (missingIn (placed ss) (sectionAt ss i) ≡ x)
+      back directMark (m, (r, e, f), h) = rw (e, f) (absent-law (m .0) .1 h, refl)
+      back deltaStart (d, (r, e, f), h) = rw (e, f, not-true (placed ss (d .start .0)) (absent-law (d .start .0) .1 h)) (refl, refl)
+      back deltaEnd (d, (r, e, f), (j, at), h) = rw (e, f, placed-law ss (d .start .0) .1 (j, at .0, at .1)) (absent-law (d .end .0) .1 h, refl)
+
+  -- the first section with any of them
+  first-missing : (x : Missing) (i : ℕ) → (IsFirst ss (unplacedAt ss) i × (missingAt ss i ≡ x)) ↔ FirstMisses ss i x
+  first-missing x i = (
+    λ (h, e). (h .0, missing-place x i .0 (h .1, e), λ j l y m. true≢false (sym (missing-place y j .1 m .0) ∙ h .2 j l)),
+    λ (l, m, none). let q = missing-place x i .1 m in ((l, q .0, λ j k. not-here j (unplacedAt ss j) refl (none j k)), q .1),
+  )
+    where
+      not-here : (j : ℕ) (b : Bool) → unplacedAt ss j ≡ b → ((y : Missing) → Misses ss j y → ⊥) → b ≡ false
+      not-here j true e none = absurd (none (missingAt ss j) (missing-place (missingAt ss j) j .0 (e, refl)))
+      not-here j false e none = refl
 
 -- ---- 9
 
@@ -195,6 +232,8 @@ condition-laws ss = record {
   placed-iff = λ m. (λ h. let q = placed-law ss m .0 h in (q .0, (q .1, q .2)), λ (i, (l, e)). placed-law ss m .1 (i, l, e));
   short-iff = short-place ss;
   unplaced-iff = unplaced-place ss;
+  missing-iff = λ x i l. missing-place ss x i;
+  first-missing-iff = first-missing ss;
   apart-iff = apart-place ss;
   backward-iff = λ table i l. backward-place table ss i;
 }

@@ -10,7 +10,7 @@ use Rattle.units.specs.Reply.{accepted, refused}
 use Rattle.records.specs.Sections.{Section}
 use Rattle.layout.specs.Layout.{Layout, inAll}
 use Rattle.layout.specs.Passes.{Settling, settled, narrowAt, unsettled as unsettledPasses, settle}
-use Rattle.layout.specs.Conditions.{Never, deltaAt, storedBytes, references}
+use Rattle.layout.specs.Conditions.{Never, deltaAt, storedBytes, references, directMark, deltaStart, deltaEnd}
 use Rattle.layout.specs.Shortest.{settledLayout, SomeLayout, LeastLayout}
 use Rattle.layout.specs.Answer.{Answer, laidOut, noLayout, shortTable, unplaced, placedApart, tooNarrow, unsettled, backward}
 use Rattle.layout.specs.Answer.{answer, Sound, Says, Laid, answerReply, answerTable}
@@ -69,7 +69,7 @@ least-other ss num i k l ten eleven = least-refused ss num i k l (λ h. absurd (
 -- ---- the answer
 
 module _ (n : ℕ) (ss : List Section) (small : storedBytes ss + 5 * references ss < 2 ^ 32) where
-  -- 7, 8 and 9 don't hold, and every reference is direct
+  -- 7, 8, 17, 18 and 9 don't hold, and every reference is direct
   plain : Never ss (deltaAt ss) → Sound n ss → PlainSections n ss
   plain direct sound = record { inTable = sound .0; direct = direct; marksPlaced = sound .1; together = sound .2 }
 
@@ -81,7 +81,9 @@ module _ (n : ℕ) (ss : List Section) (small : storedBytes ss + 5 * references 
       record { enough = v .0; least = λ l h. let q = v .2 l h in (λ m p. q .0 m, omega (arith, q .1, v .1)) } in
       least-laid ss (record { length = e; passes = k }) (settledLayout table ss) least (v .1)
   says-least direct (noLayout (shortTable i)) says = least-other ss number.shortTable i 0 _ (λ h. omega arith) (λ h. omega arith)
-  says-least direct (noLayout (unplaced i)) says = least-other ss number.unplaced i 0 _ (λ h. omega arith) (λ h. omega arith)
+  says-least direct (noLayout (unplaced directMark i)) says = least-other ss number.unplaced i 0 _ (λ h. omega arith) (λ h. omega arith)
+  says-least direct (noLayout (unplaced deltaStart i)) says = least-other ss number.startUnplaced i 0 _ (λ h. omega arith) (λ h. omega arith)
+  says-least direct (noLayout (unplaced deltaEnd i)) says = least-other ss number.endUnplaced i 0 _ (λ h. omega arith) (λ h. omega arith)
   says-least direct (noLayout (placedApart i)) says = least-other ss number.placedApart i 0 _ (λ h. omega arith) (λ h. omega arith)
   says-least direct (noLayout (tooNarrow i k)) says =
       let q = settle-law n ss (narrowAt i k) .1 (says .1) in

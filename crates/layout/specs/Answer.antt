@@ -1,4 +1,5 @@
--- Document 01, 'Replies': the answer of settling, refusals 7 to 12 in their order. 6 is tested before, 13 after. Assumes nothing.
+-- Document 01, 'Replies', and document 02, request 5: the answer of settling, refusals 7 to 12 in their order, with 17 and 18 in the place
+-- of 8. 6 is tested before, 13 after. Assumes nothing.
 use Prim.Native.Nat.{ℕ}
 use mathlib.Core.Path.{_≡_}
 use mathlib.Core.Bool.{cond}
@@ -11,13 +12,14 @@ use Rattle.units.specs.Replies.{RefusalNumbers}
 use Rattle.records.specs.Sections.{Section}
 use Rattle.layout.specs.Passes as settling
 use Rattle.layout.specs.Conditions.{IsFirst, Never, shortAt, firstShort, unplacedAt, firstUnplaced, apartAt, firstApart}
-use Rattle.layout.specs.Conditions.{backwardAt, firstBackward, Means}
+use Rattle.layout.specs.Conditions.{Missing, directMark, deltaStart, deltaEnd, missingAt, backwardAt, firstBackward, Means}
 
--- why sections have no layout: 7 to 12
+-- why sections have no layout: 7 to 12, 17, 18
 pub data LayoutRefusal : Type 0 where
-  -- 7, 8 and 9: the section
+  -- 7 and 9: the section
   shortTable : ℕ → LayoutRefusal
-  unplaced : ℕ → LayoutRefusal
+  -- 8, 17 or 18: the mark that the section misses, and the section
+  unplaced : Missing → ℕ → LayoutRefusal
   placedApart : ℕ → LayoutRefusal
   -- 10 and 12: the section, the passes made
   tooNarrow : ℕ → ℕ → LayoutRefusal
@@ -40,13 +42,18 @@ settlingAnswer ss (settling.settled table sum k) = orElse ss (firstBackward tabl
 settlingAnswer ss (settling.narrowAt i k) = noLayout (tooNarrow i k)
 settlingAnswer ss settling.unsettled = noLayout unsettled
 
--- 7, 8, 9, then the settling
+-- 8, 17 or 18, of the first section with an unplaced mark
+abbrev pub missed : List Section → ℕ → LayoutRefusal
+missed ss i = unplaced (missingAt ss i) i
+
+-- 7; 8, 17 or 18; 9; then the settling
 unfoldable pub answer : ℕ → List Section → Answer
 answer n ss =
     orElse ss (firstShort n ss) shortTable
-    (orElse ss (firstUnplaced ss) unplaced (orElse ss (firstApart ss) placedApart (settlingAnswer ss (settling.settle n ss))))
+    (orElse ss (firstUnplaced ss) (missed ss)
+    (orElse ss (firstApart ss) placedApart (settlingAnswer ss (settling.settle n ss))))
 
--- 7, 8 and 9 don't hold
+-- 7, 8, 17, 18 and 9 don't hold
 abbrev pub Sound : ℕ → List Section → Type 0
 Sound n ss = Never ss (shortAt n ss) × Never ss (unplacedAt ss) × Never ss (apartAt ss)
 
@@ -55,7 +62,7 @@ Sound n ss = Never ss (shortAt n ss) × Never ss (unplacedAt ss) × Never ss (ap
 abbrev pub Says : ℕ → List Section → Answer → Type 0
 Says n ss (laidOut table sum k) = Sound n ss × Means n ss (settling.settled table sum k) × Never ss (backwardAt table ss)
 Says n ss (noLayout (shortTable i)) = IsFirst ss (shortAt n ss) i
-Says n ss (noLayout (unplaced i)) = Never ss (shortAt n ss) × IsFirst ss (unplacedAt ss) i
+Says n ss (noLayout (unplaced x i)) = Never ss (shortAt n ss) × IsFirst ss (unplacedAt ss) i × (missingAt ss i ≡ x)
 Says n ss (noLayout (placedApart i)) = Never ss (shortAt n ss) × Never ss (unplacedAt ss) × IsFirst ss (apartAt ss) i
 Says n ss (noLayout (tooNarrow i k)) = Sound n ss × Means n ss (settling.narrowAt i k)
 Says n ss (noLayout unsettled) = Sound n ss × Means n ss settling.unsettled
@@ -64,10 +71,16 @@ Says n ss (noLayout (backward i k)) =
 
 -- ---- in the paper's numbers
 
+-- 8, 17 or 18 by the mark that is missing
+abbrev pub missingNumber : Missing → ℕ
+missingNumber directMark = number.unplaced
+missingNumber deltaStart = number.startUnplaced
+missingNumber deltaEnd = number.endUnplaced
+
 -- the number, section and passes of each refusal
 abbrev pub layoutNumbers : LayoutRefusal → RefusalNumbers
 layoutNumbers (shortTable i) = number.numbersAt number.shortTable i 0
-layoutNumbers (unplaced i) = number.numbersAt number.unplaced i 0
+layoutNumbers (unplaced x i) = number.numbersAt (missingNumber x) i 0
 layoutNumbers (placedApart i) = number.numbersAt number.placedApart i 0
 layoutNumbers (tooNarrow i k) = number.numbersAt number.tooNarrow i k
 layoutNumbers unsettled = number.numbersAt number.unsettled 0 number.maxPasses

@@ -1,5 +1,6 @@
--- Document 01, module 3 and 'Replies': the conditions for 7, 8, 9 and 12 by the first section that .., those for 10, 11 and settled by
--- the pass that .., and the premise of demand 3. Readings 22 to 25 of docs/DECISIONS.md. Assumes nothing.
+-- Document 01, module 3 and 'Replies': the conditions for 7, 8 (and, of document 02, request 5, for 17 and 18), 9 and 12 by the first
+-- section that .., those for 10, 11 and settled by the pass that .., and the premise of demand 3. Readings 22 to 25 and 79 of
+-- docs/DECISIONS.md. Assumes nothing.
 use Prim.Native.Nat.{ℕ, zero, suc, _+_, _*_, _^_, _≤_, _<_}
 use mathlib.Core.Path.{_≡_}
 use mathlib.Core.Bool.{Bool, true, false, cond, not, _&&_, _||_}
@@ -73,13 +74,35 @@ shortAt n ss i = placesSome (leb n) (sectionAt ss i) || namesSome (leb n) (secti
 unfoldable pub firstShort : ℕ → List Section → ℕ
 firstShort n ss = first ss (shortAt n ss)
 
--- 8: 'a named mark is never placed'
+-- 8, 17 and 18: 'a named mark is never placed'
 unfoldable pub unplacedAt : List Section → ℕ → Bool
 unplacedAt ss i = namesSome (λ m. not (placed ss m)) (sectionAt ss i)
 
--- the section of an 8
+-- the section of an 8, 17 or 18: 'both in 8's position, the first section winning'
 unfoldable pub firstUnplaced : List Section → ℕ
 firstUnplaced ss = first ss (unplacedAt ss)
+
+-- document 02, request 5: which mark a section misses, 'a direct reference's mark', 'a delta's start' or 'a delta's end'
+pub data Missing : Type 0 where
+  directMark : Missing
+  deltaStart : Missing
+  deltaEnd : Missing
+
+-- of a reference with an unplaced mark: 'If both ends are absent the start is reported'
+abbrev pub missingOf : (ℕ → Bool) → MarkReference → Missing
+missingOf isPlaced (Direct m) = directMark
+missingOf isPlaced (Delta s) = cond (isPlaced (s .start .0)) deltaEnd deltaStart
+
+-- of a section with one (of another it says nothing)
+abbrev pub missingIn : (ℕ → Bool) → Section → Missing
+missingIn isPlaced (mark m) = directMark
+missingIn isPlaced (ops bs) = directMark
+missingIn isPlaced (bytes bs) = directMark
+missingIn isPlaced (reference r) = missingOf isPlaced (r .«mark_ref»)
+
+-- of section i
+unfoldable pub missingAt : List Section → ℕ → Missing
+missingAt ss i = missingIn (placed ss) (sectionAt ss i)
 
 -- 'a reference, or an Ops or Data section that isn't empty'
 abbrev pub hasBytes : Section → Bool

@@ -1,9 +1,9 @@
 -- The table of first placings: an entry is 0 where the mark is never placed, else one more than the sum of least sizes before its
--- first placing. So 8 and 9 can be read from it. Assumes nothing.
+-- first placing. So 8, 17 and 18, and 9 can be read from it. Assumes nothing.
 use Prim.Native.Nat.{ℕ, zero, suc, _+_, _≤_, _<_, suc-le-suc}
 use native.Mathlib.Omega.{arith}
 use mathlib.Core.Path.{_≡_, refl, sym, ap, _∙_}
-use mathlib.Core.Bool.{Bool, true, false, cond, not, _&&_, true≢false}
+use mathlib.Core.Bool.{Bool, true, false, cond, not, _&&_, true≢false, Bool·not-not}
 use mathlib.Core.List.{List, [], _∷_}
 use mathlib.Core.Logic.{_⊎_, inl, inr}
 use lib.Dec.{eqb, leb}
@@ -122,7 +122,7 @@ first-placing : (n : ℕ) (ss : List Section) (m : ℕ) → m < n → Placing ss
 unfolding firstSums
 first-placing n ss m l = placing ss 0 (replicate n 0) m (omega (arith, length-replicate {A = ℕ} n 0)) (getD-replicate n m 0 0 l)
 
--- ---- 8
+-- ---- 8, 17 and 18
 
 -- an entry is 0 exactly where the mark is never placed
 entry-unplaced : (n : ℕ) (ss : List Section) (m : ℕ) → m < n → eqb (entry (firstSums n ss) m) 0 ≡ not (placed ss m)
@@ -153,7 +153,7 @@ module _ (n : ℕ) (ss : List Section) (inTable : Never ss (shortAt n ss)) where
   named-same f g same i l =
       names-same n f g (sectionAt ss i) same (or-false (placesSome (leb n) (sectionAt ss i)) (namesSome (leb n) (sectionAt ss i)) (inTable i l) .1)
 
-  -- where every mark below n is placed, 8 is never said
+  -- where every mark below n is placed, none of them is said
   pub none-unplaced : ((m : ℕ) → m < n → placed ss m ≡ true) → length ss ≡ firstUnplaced ss
   unfolding firstUnplaced unplacedAt
   none-unplaced all = sym (never-law ss (unplacedAt ss) .1 never)
@@ -180,10 +180,14 @@ module _ (n : ℕ) (ss : List Section) (table : List ℕ) (is : table ≡ firstS
   zero-unplaced : (m : ℕ) → m < n → zeroAt table m ≡ not (placed ss m)
   zero-unplaced m l = ap (λ (x : List ℕ). zeroAt x m) is ∙ entry-unplaced n ss m l
 
-  -- 8 of one section, as the code tests it
+  -- one of the three of one section, as the code tests it
   pub unplaced-test : (i : ℕ) (x : StoredSection) → Turn ss i x → unplacedWords table x ≡ unplacedAt ss i
   unfolding unplacedAt
   unplaced-test i x t = unplaced-words table (t .words) ∙ named-same n ss inTable (zeroAt table) (λ m. not (placed ss m)) zero-unplaced i (t .below)
+
+  -- an entry that isn't 0 is of a mark that is placed
+  pub entry-placed : (m : ℕ) → m < n → not (zeroAt table m) ≡ placed ss m
+  entry-placed m l = ap not (zero-unplaced m l) ∙ Bool·not-not (placed ss m)
 
   -- where no entry is 0, it is never said
   pub all-placed : length table ≡ n → allPlaced table ≡ true → length ss ≡ firstUnplaced ss

@@ -24,9 +24,9 @@ use Rattle.undamaged.proofs.Reading.{direct, delta, Reads, is-damaged, is-mark,
 use Rattle.undamaged.proofs.Forms.{form-read}
 use Rattle.slices.proofs.Tests.{and-false-left}
 use Rattle.layout.specs.Passes.{entry, valueBy}
-use Rattle.layout.specs.Conditions.{placesSome, namesSome, refers, backwardBy, isDelta}
+use Rattle.layout.specs.Conditions.{placesSome, namesSome, missingIn, refers, backwardBy, isDelta}
 use Rattle.layout.proofs.Moves.{widthBy}
-use Rattle.settling.specs.SectionWalk.{shortWords, MarksIn, unplacedWords, backwardWords, valueWords, leastWords, sizeWords}
+use Rattle.settling.specs.SectionWalk.{shortWords, MarksIn, unplacedWords, missingWords, backwardWords, valueWords, leastWords, sizeWords}
 
 -- x are the words of a section
 pub data Words (x : StoredSection) : Section → Type 0 where
@@ -112,6 +112,23 @@ module _ {x : StoredSection} where
   pub unplaced-words : (table : List ℕ) {s : Section} → Words x s → unplacedWords table x ≡ namesSome (λ m. eqb (entry table m) 0) s
   unfolding unplacedWords
   unplaced-words table w = named-words (λ m. eqb (entry table m) 0) w
+
+  -- only a reference names one
+  pub named-kind : (test : ℕ → Bool) {s : Section} → Words x s → namesSome test s ≡ true → directKind ≤ x .kind
+  named-kind test (mark-words f) h = absurd (true≢false (sym h))
+  named-kind test (ops-words f l bs d) h = absurd (true≢false (sym h))
+  named-kind test (data-words f l bs d) h = absurd (true≢false (sym h))
+  named-kind test (direct-words f s p g) h = omega arith
+  named-kind test (delta-words l s p g) h = omega arith
+
+  -- which mark a reference misses
+  pub missing-words : (isPlaced : ℕ → Bool) {s : Section} → Words x s → directKind ≤ x .kind → missingWords (isPlaced (x .first)) x ≡ missingIn isPlaced s
+  unfolding missingWords
+  missing-words isPlaced (mark-words f) l = absurd (omega arith)
+  missing-words isPlaced (ops-words f h bs d) l = absurd (omega arith)
+  missing-words isPlaced (data-words f h bs d) l = absurd (omega arith)
+  missing-words isPlaced (direct-words f s p g) l = rw (eq-eqb (x .kind) directKind f)
+  missing-words isPlaced (delta-words h s p g) l = rw (ne-eqb (x .kind) directKind (λ e. omega arith))
 
   -- 12
   pub backward-words : (table : List ℕ) {s : Section} → Words x s → backwardWords table x ≡ refers (backwardBy table) s

@@ -5,7 +5,7 @@ use native.Mathlib.Nat.{add-zero, zero-add, le-refl}
 use native.Mathlib.Numerals.{add-one}
 use native.Mathlib.Omega.{arith}
 use mathlib.Core.Path.{_≡_, refl, sym, ap, _∙_, subst}
-use mathlib.Core.Bool.{true, false, cond}
+use mathlib.Core.Bool.{Bool, true, false, cond, not}
 use mathlib.Core.List.{List, [], _∷_, _++_}
 use lib.Dec.{ltb}
 use lib.ListN.{length, getD, take}
@@ -25,14 +25,14 @@ use Rattle.undamaged.specs.View.{Undamaged, Facts}
 use Rattle.undamaged.proofs.Soundness.{undamaged-iff}
 use Rattle.undamaged.proofs.Sections.{decode-snoc, span-stored}
 use Rattle.layout.specs.Passes.{valueBy}
-use Rattle.layout.specs.Conditions.{sectionAt, Never, sumOf, storedIn, shortAt, deltaAt, backwardAt, firstBackward}
+use Rattle.layout.specs.Conditions.{sectionAt, Never, sumOf, storedIn, placed, shortAt, unplacedAt, missingAt, deltaAt, backwardAt, firstBackward}
 use Rattle.layout.proofs.Least.{never-law}
 use Rattle.layout.proofs.Moves.{widthBy}
 use Rattle.layout.proofs.Apart.{leastBefore}
 use Rattle.layout.proofs.Premises.{never-backward}
 use Rattle.layout.proofs.WidthRule.{widthRule, size-five}
-use Rattle.settling.specs.SectionWalk.{sectionsOf, Whole, Fitting, shortWords, MarksIn, backwardWords}
-use Rattle.settling.proofs.SectionWords.{Words, mark-words, ops-words, data-words, direct-words, delta-words, words-read, sizeSection, short-words, backward-words, delta-kind, marks-in}
+use Rattle.settling.specs.SectionWalk.{sectionsOf, Whole, Fitting, shortWords, MarksIn, missingWords, backwardWords}
+use Rattle.settling.proofs.SectionWords.{Words, mark-words, ops-words, data-words, direct-words, delta-words, words-read, sizeSection, short-words, named-kind, missing-words, backward-words, delta-kind, marks-in}
 
 -- ---- the list
 
@@ -179,7 +179,19 @@ pub short-test : (n : ℕ) (ss : List Section) (i : ℕ) (x : StoredSection) →
 unfolding shortAt
 short-test n ss i x t = short-words n (t .words)
 
--- and for 12
+-- 8, 17 and 18 are of a reference
+pub unplaced-kind : (ss : List Section) (i : ℕ) (x : StoredSection) → Turn ss i x → unplacedAt ss i ≡ true → directKind ≤ x .kind
+unfolding unplacedAt
+unplaced-kind ss i x t h = named-kind (λ m. not (placed ss m)) (t .words) h
+
+-- and which of them, by whether its first mark is placed
+pub missing-test : (ss : List Section) (i : ℕ) (x : StoredSection) → Turn ss i x → unplacedAt ss i ≡ true
+    → (startPlaced : Bool) → startPlaced ≡ placed ss (x .first) → missingWords startPlaced x ≡ missingAt ss i
+unfolding missingAt
+missing-test ss i x t h startPlaced e =
+    ap (λ (b : Bool). missingWords b x) e ∙ missing-words (placed ss) (t .words) (unplaced-kind ss i x t h)
+
+-- the code's test for 12
 pub backward-test : (table : List ℕ) (ss : List Section) (i : ℕ) (x : StoredSection) → Turn ss i x → backwardWords table x ≡ backwardAt table ss i
 unfolding backwardAt
 backward-test table ss i x t = backward-words table (t .words)

@@ -1,7 +1,7 @@
 -- How the searches and the passes make the answer: one law for each way that the code goes, on plain variables. Assumes nothing.
 use Prim.Native.Nat.{ℕ, _≤_, _<_}
 use native.Mathlib.Omega.{arith}
-use mathlib.Core.Path.{_≡_, sym, ap, _∙_, subst}
+use mathlib.Core.Path.{_≡_, refl, sym, ap, _∙_, subst}
 use mathlib.Core.List.{List}
 use lib.ListN.{length, replicate}
 use borrow.Author.Tests.{lt-ltb, le-ltb}
@@ -13,11 +13,11 @@ use Rattle.records.specs.Damage.{wholeSoundness}
 use Rattle.records.specs.Sections.{Section, decode}
 use Rattle.records.specs.declared.damage.Soundness.{Soundness}
 use Rattle.layout.specs.Passes.{start, Settling, settled, narrowAt, unsettled, passes, settle}
-use Rattle.layout.specs.Conditions.{firstBackward}
-use Rattle.layout.specs.Answer.{LayoutRefusal, backward, Answer, noLayout, settlingAnswer, answer, Sound, Says}
+use Rattle.layout.specs.Conditions.{Missing, directMark, deltaStart, deltaEnd, firstBackward}
+use Rattle.layout.specs.Answer.{LayoutRefusal, unplaced, backward, Answer, noLayout, settlingAnswer, answer, Sound, Says}
 use Rattle.layout.specs.Answer.{layoutNumbers, Laid, answerReply, answerTable}
 use Rattle.layout.proofs.Answers.{sound-answer, answer-law}
-use Rattle.settling.specs.SectionWalk.{passesReply, passesTable}
+use Rattle.settling.specs.SectionWalk.{missingRefusal, passesReply, passesTable}
 use Rattle.settling.specs.Settle.{settlement, settling, settledReply}
 use Rattle.settling.specs.declared.Settled.{Settled}
 use Rattle.settling.specs.declared.Settled.the-variants.{LaidOut, Refused}
@@ -36,7 +36,13 @@ pub answers-said : (n : ℕ) (ss : List Section) (r : LayoutRefusal) (table : Li
     → Answers n (answer n ss) (numbersReply (layoutNumbers r)) table
 answers-said n ss r table says h = answers-refused n (answer n ss) r table (answer-law n ss (noLayout r) .1 says) h
 
--- and where 7, 8 and 9 don't hold, what the settling answers
+-- 8, 17 or 18 as the code refuses it
+pub missing-reply : (x : Missing) (i : ℕ) → settledReply (Refused (missingRefusal x i)) ≡ numbersReply (layoutNumbers (unplaced x i))
+missing-reply directMark i = refl
+missing-reply deltaStart i = refl
+missing-reply deltaEnd i = refl
+
+-- and where 7, 8, 17, 18 and 9 don't hold, what the settling answers
 pub answers-sound : (n : ℕ) (ss : List Section) (reply : Reply Laid) (table : List ℕ) → Sound n ss → Answers n (settlingAnswer ss (settle n ss)) reply table
     → Answers n (answer n ss) reply table
 answers-sound n ss reply table sound h = subst (λ (a : Answer). Answers n a reply table) (sym (sound-answer n ss sound)) h

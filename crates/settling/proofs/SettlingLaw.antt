@@ -1,8 +1,8 @@
--- The law of each answer of settling: 6 to 12 and laid out, each exactly in its stated condition. Assumes nothing.
+-- The law of each answer of settling: 6 to 12, 17, 18 and laid out, each exactly in its stated condition. Assumes nothing.
 use Prim.Native.Nat.{ℕ}
 use mathlib.Core.Path.{_≡_, refl, sym, ap, _∙_, subst}
 use mathlib.Core.Bool.{false, cond}
-use mathlib.Core.Logic.{_↔_}
+use mathlib.Core.Logic.{_↔_, Iff·trans}
 use lib.Dec.{eqb}
 use Rattle.units.specs.Replies.{tooNarrow}
 use Rattle.units.specs.Reply.{Reply, accepted, refused}
@@ -14,10 +14,12 @@ use Rattle.records.specs.declared.damage.Soundness.the-variants as soundness
 use Rattle.undamaged.specs.View.{Undamaged}
 use Rattle.undamaged.proofs.Soundness.{damaged-at-iff}
 use Rattle.layout.specs.Passes.{settled, narrowAt, settle}
+use Rattle.layout.specs.Conditions.{Missing, directMark, deltaStart, deltaEnd}
 use Rattle.layout.specs.Answer as layout
 use Rattle.layout.proofs.Answers.{settle-law, answer-law}
+use Rattle.layout.proofs.ConditionLaws.{condition-laws}
 use Rattle.settling.specs.Settle.{Settlement, settlement, settling}
-use Rattle.settling.specs.SettlingAnswers.{SettlingAnswer, laidOut, damaged, noLayout, settlingReply, SettlingSays}
+use Rattle.settling.specs.SettlingAnswers.{SettlingAnswer, laidOut, damaged, noLayout, settlingReply, SettlingSays, StoreMisses}
 
 -- ---- a reply tells the answer
 
@@ -26,18 +28,22 @@ abbrev pub refusalAt : ℕ → ℕ → ℕ → SettlingAnswer
 refusalAt number i k =
     cond (eqb number 6) (damaged i)
     (cond (eqb number 7) (noLayout (layout.shortTable i))
-    (cond (eqb number 8) (noLayout (layout.unplaced i))
+    (cond (eqb number 8) (noLayout (layout.unplaced directMark i))
     (cond (eqb number 9) (noLayout (layout.placedApart i))
     (cond (eqb number 10) (noLayout (layout.tooNarrow i k))
     (cond (eqb number 11) (noLayout layout.unsettled)
-    (noLayout (layout.backward i k)))))))
+    (cond (eqb number 17) (noLayout (layout.unplaced deltaStart i))
+    (cond (eqb number 18) (noLayout (layout.unplaced deltaEnd i))
+    (noLayout (layout.backward i k)))))))))
 
--- one of 7 to 12 comes back from its number, section and passes; it isn't 13
+-- one of 7 to 12, 17 and 18 comes back from its number, section and passes; it isn't 13
 pub refusal-back : (r : layout.LayoutRefusal)
     → (eqb (layout.layoutNumbers r .number) 13 ≡ false)
     × (refusalAt (layout.layoutNumbers r .number) (layout.layoutNumbers r .section) (layout.layoutNumbers r .passes) ≡ noLayout r)
 refusal-back (layout.shortTable i) = (refl, refl)
-refusal-back (layout.unplaced i) = (refl, refl)
+refusal-back (layout.unplaced directMark i) = (refl, refl)
+refusal-back (layout.unplaced deltaStart i) = (refl, refl)
+refusal-back (layout.unplaced deltaEnd i) = (refl, refl)
 refusal-back (layout.placedApart i) = (refl, refl)
 refusal-back (layout.tooNarrow i k) = (refl, refl)
 refusal-back layout.unsettled = (refl, refl)
@@ -101,6 +107,16 @@ module _ (w n : ℕ) (st : Store) where
         subst (SettlingSays w st n) (sym (answer-back (settling-said .0)) ∙ ap answerOf same ∙ answer-back a) (settling-said .1),
     says-replied a,
   )
+
+  -- the condition of 8, 17 and 18 by positions
+  pub misses-law : (x : Missing) (i : ℕ) → SettlingSays w st n (noLayout (layout.unplaced x i)) ↔ StoreMisses w st n i x
+  misses-law x i =
+      let first = condition-laws (decode w st) .first-missing-iff x i in
+      (λ (u, says). (u, says .0, first .0 (says .1, says .2)), λ (u, short, h). let q = first .1 h in (u, (short, q .0, q .1)))
+
+  -- they are answered exactly then
+  pub missing-exactly : (x : Missing) (i : ℕ) → (settling w n st .reply ≡ refused (layout.missingNumber x) i 0) ↔ StoreMisses w st n i x
+  missing-exactly x i = Iff·trans (settling-law (noLayout (layout.unplaced x i))) (misses-law x i)
 
   -- laid out: the passes' table, length and count
   pub laid-settled : (laid : layout.Laid) → settling w n st .reply ≡ accepted laid

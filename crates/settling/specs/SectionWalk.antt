@@ -19,7 +19,7 @@ use Rattle.records.specs.declared.Assembler.{Assembler}
 use Rattle.records.specs.declared.record.StoredSection.{StoredSection}
 use Rattle.undamaged.specs.View.{Undamaged}
 use Rattle.layout.specs.Passes.{entry, start, Settling, settled, narrowAt, unsettled, settle}
-use Rattle.layout.specs.Conditions.{Never, someBelow, shortAt, deltaAt, firstApart}
+use Rattle.layout.specs.Conditions.{Never, someBelow, shortAt, Missing, directMark, deltaStart, deltaEnd, deltaAt, firstApart}
 use Rattle.layout.specs.Answer.{Answer, settlingAnswer}
 use Rattle.settling.specs.declared.Settled.{Settled}
 use Rattle.settling.specs.declared.table.Placings.{Placings}
@@ -53,10 +53,20 @@ pub record MarksIn (n : ℕ) (x : StoredSection) : Type 0 where
   pub first : directKind ≤ x .kind → x .first < n
   pub second : directKind < x .kind → x .second < n
 
--- 8, by a table that is 0 at the unplaced marks
+-- 8, 17 or 18, by a table that is 0 at the unplaced marks
 unfoldable pub unplacedWords : List ℕ → StoredSection → Bool
 unplacedWords table x =
     leb directKind (x .kind) && (eqb (entry table (x .first)) 0 || ltb directKind (x .kind) && eqb (entry table (x .second)) 0)
+
+-- which mark a reference misses, by its kind and, of a delta, by whether its start is placed
+unfoldable pub missingWords : Bool → StoredSection → Missing
+missingWords startPlaced x = cond (eqb (x .kind) directKind) directMark (cond startPlaced deltaEnd deltaStart)
+
+-- 8, 17 or 18 at section i
+abbrev pub missingRefusal : Missing → ℕ → Refusal
+missingRefusal directMark i = Refusal.Unplaced i
+missingRefusal deltaStart i = Refusal.StartUnplaced i
+missingRefusal deltaEnd i = Refusal.EndUnplaced i
 
 -- 12
 unfoldable pub backwardWords : List ℕ → StoredSection → Bool
@@ -111,7 +121,7 @@ pub record Placed (n : ℕ) (ss : List Section) (found : Placings) (table : List
 
 -- ---- the passes
 
--- what a list answers where 7, 8 and 9 don't hold
+-- what a list answers where 7, 8, 17, 18 and 9 don't hold
 abbrev pub settledAnswer : ℕ → List Section → Answer
 settledAnswer n ss = settlingAnswer ss (settle n ss)
 

@@ -1,17 +1,19 @@
-// The test for 7 of one section, and the searches for 8 and 12: the first section with a property, the count of sections if there is none.
+// The test for 7 of one section, and the searches for 8, 17 or 18 and for 12: the first section with a property, the count of sections if
+// there is none.
 use crate::section::entry_of;
 use crate::section::section_words;
 use records::Assembler;
 use records::StoredSection;
 use records::kind;
 use units::MarkId;
+use units::Refusal;
 ghost use mathlib.Core.Path.{_≡_};
 ghost use lib.Dec.{leb};
 ghost use lib.ListN.{length};
 ghost use mathlib.Core.Bool.{false};
 ghost use Rattle.layout.specs.Conditions.{Never, deltaAt, firstUnplaced, firstBackward};
 ghost use Rattle.settling.specs.SectionWalk.{sectionsOf, Fitting, shortWords, MarksIn, unplacedWords, backwardWords};
-ghost use Rattle.settling.specs.SectionWalk.{firstSums, allPlaced};
+ghost use Rattle.settling.specs.SectionWalk.{firstSums, allPlaced, missingWords, missingRefusal};
 
 // A mark that a table of this length has no entry for.
 fn is_past(mark: MarkId, limit: usize) -> bool
@@ -39,7 +41,7 @@ pub fn is_short(section: StoredSection, limit: usize) -> bool
     is_past(MarkId(section.second), limit)
 }
 
-// 8, for one section, by the table of first placings.
+// 8, 17 or 18, for one section, by the table of first placings.
 fn is_unplaced(section: StoredSection, table: &[u32]) -> bool
     requires { ⌜ MarksIn (length (now table)) section ⌝ }
     ensures { λ r. ⌜ r ≡ unplacedWords (now (table .entry)) section ⌝ }
@@ -87,6 +89,19 @@ pub(crate) fn first_unplaced(store: Assembler, bytes: &[u8], words: &[u32], tabl
         i += 1;
     }
     i
+}
+
+// Which of the three, of the section that the search found: by its kind and, of a delta, by whether its start is placed. `tables` asks too.
+pub fn missing_refusal(section: StoredSection, start_placed: bool, at: u32) -> Refusal
+    ensures { λ r. ⌜ r ≡ missingRefusal (missingWords «start_placed» section) at ⌝ }
+{
+    if section.kind == kind::DIRECT {
+        return Refusal::Unplaced { section: at };
+    }
+    if start_placed {
+        return Refusal::EndUnplaced { section: at };
+    }
+    Refusal::StartUnplaced { section: at }
 }
 
 // 12, for one section, by the settled table.

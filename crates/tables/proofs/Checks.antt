@@ -7,15 +7,16 @@ use mathlib.Core.Bool.{Bool, true, false, _||_}
 use mathlib.Core.List.{List, [], _∷_}
 use lib.ListN.{length, take}
 use Rattle.units.specs.Replies as number
-use Rattle.units.specs.Reply.{Reply, accepted, refused}
+use Rattle.units.specs.Reply.{Reply, accepted, refused, numbersReply}
 use Rattle.units.specs.Reference.{leastSize}
 use Rattle.records.specs.Sections.{Section, mark, ops, bytes, reference}
 use Rattle.slices.proofs.First.{NoneBefore, leastFrom-least}
 use Rattle.slices.proofs.Tests.{or-false}
 use Rattle.layout.specs.Passes.{entry, valueBy, sizeBy}
-use Rattle.layout.specs.Conditions.{sectionAt, first, IsFirst, Never, shortAt, firstShort, unplacedAt, firstUnplaced, apartAt, firstApart, backwardAt, firstBackward, sumOf}
-use Rattle.layout.specs.Answer.{Laid}
-use Rattle.layout.proofs.Answers.{short-law, unplaced-law, apart-law, backward-law}
+use Rattle.layout.specs.Conditions.{sectionAt, first, IsFirst, Never, shortAt, firstShort, unplacedAt, apartAt, firstApart, backwardAt, firstBackward, sumOf}
+use Rattle.layout.specs.Conditions.{Missing, missingAt}
+use Rattle.layout.specs.Answer.{Laid, unplaced as layoutUnplaced, layoutNumbers}
+use Rattle.layout.proofs.Answers.{short-law, apart-law, backward-law}
 use Rattle.layout.proofs.Apart.{ApartBySums, apart-sums}
 use Rattle.layout.proofs.Least.{first-law, none-found}
 use Rattle.layout.proofs.Moves.{widthBy}
@@ -112,9 +113,9 @@ module _ (table : List ℕ) (ss : List Section) where
   is-short i e l = sym (ap tableReply (table-law table ss (refuses (shortTable i)) .1 (short-law (length table) ss i .0 (sym e, l))))
 
   module _ (short : Never ss (shortAt (length table) ss)) where
-    -- 8
-    pub is-unplaced : (i : ℕ) → i ≡ firstUnplaced ss → i < length ss → Is (refused number.unplaced i 0)
-    is-unplaced i e l = sym (ap tableReply (table-law table ss (refuses (unplaced i)) .1 (short, unplaced-law ss i .0 (sym e, l))))
+    -- 8, 17 or 18
+    pub is-unplaced : (x : Missing) (i : ℕ) → IsFirst ss (unplacedAt ss) i → missingAt ss i ≡ x → Is (numbersReply (layoutNumbers (layoutUnplaced x i)))
+    is-unplaced x i h e = sym (ap tableReply (table-law table ss (refuses (unplaced x i)) .1 (short, h, e)))
 
     module _ (placed : Never ss (unplacedAt ss)) where
       -- 9

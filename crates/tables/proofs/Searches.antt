@@ -58,7 +58,7 @@ pub turn-covered : (store : Assembler) (held words : List ℕ) (n : ℕ) (map : 
 turn-covered store held words n map f covers i x l e =
     marks-covered n map x covers (turn-in store held words n f i x (turn store held words (f .whole) i x l e)) (turn-max store held words (f .whole) i x l e)
 
--- ---- 8
+-- ---- 8, 17 and 18
 
 -- a map has room for a mark that is in it
 in-room : (map : List ℕ) (m : ℕ) → inMap map m ≡ true → m < 8 * length map
@@ -74,10 +74,10 @@ in-room map m h = go (ltb m (8 * length map)) refl
 
 module _ (ss : List Section) (n : ℕ) (map : List ℕ) (h : Marked ss n map) (count : length ss ≡ n) where
   -- the marks in the map of all sections are placed, and no other
-  in-placed : (m : ℕ) → m < 8 * length map → inMap map m ≡ placed ss m
+  pub in-placed : (m : ℕ) → m < 8 * length map → inMap map m ≡ placed ss m
   in-placed m l = h m l ∙ ap (λ (x : List Section). placed x m) (take-all n ss (omega arith))
 
-  -- 8 of one section, as the code tests it
+  -- one of the three of one section, as the code tests it
   pub unplaced-by : (i : ℕ) (x : StoredSection) → Turn ss i x → MarksIn (8 * length map) x → unplacedBy map x ≡ unplacedAt ss i
   unfolding unplacedBy unplacedAt
   unplaced-by i x t a =

@@ -1,5 +1,5 @@
--- The law of each answer of a table's tests: 6, 7, 8, 9, 16, 10, 12 and accepted, each exactly in its stated condition; that the table of a
--- settling is accepted with its length, and that the zeros of a refused settling aren't. Assumes nothing.
+-- The law of each answer of a table's tests: 6, 7, 8, 17, 18, 9, 16, 10, 12 and accepted, each exactly in its stated condition; that the
+-- table of a settling is accepted with its length, and that the zeros of a refused settling aren't. Assumes nothing.
 use Prim.Native.Nat.{ℕ, _^_, _≤_, _<_}
 use native.Mathlib.Omega.{arith}
 use native.Mathlib.Nat.{zero-add}
@@ -23,6 +23,7 @@ use Rattle.undamaged.specs.View.{Undamaged}
 use Rattle.undamaged.proofs.Soundness.{undamaged-iff, damaged-at-iff}
 use Rattle.layout.specs.Passes.{entry, sizeBy, unlike, settled}
 use Rattle.layout.specs.Conditions.{sectionAt, IsFirst, Never, placesSome, shortAt, firstShort, unplacedAt, firstUnplaced, apartAt, firstApart, backwardAt, firstBackward, sumOf}
+use Rattle.layout.specs.Conditions.{Missing, directMark, deltaStart, deltaEnd, missingAt}
 use Rattle.layout.specs.ConditionLaws.{Places}
 use Rattle.layout.specs.Answer.{Laid, answer, Sound}
 use Rattle.layout.specs.Answer as layout
@@ -34,7 +35,7 @@ use Rattle.layout.proofs.WidthRule.{widthRule}
 use Rattle.layout.proofs.Places.{still-sum, settled-still, sizes-five}
 use Rattle.settling.proofs.Decoded.{stored-small}
 use Rattle.tables.specs.TableTests.{sumBefore, differsAt, narrowBy, tooNarrowAt, wrongAt, firstWrong, TableAnswer, accepts, refuses}
-use Rattle.tables.specs.TableTests.{shortTable, unplaced, placedApart, differs, tooNarrow, backward, orElse, wrong, tableAnswer, tableReply, tableTest}
+use Rattle.tables.specs.TableTests.{shortTable, unplaced, placedApart, differs, tooNarrow, backward, orElse, missed, wrong, tableAnswer, tableReply, tableTest}
 use Rattle.tables.specs.TableAnswers.{Differs, Narrow, RightBefore, Agrees, TableSays, TestAnswer, damaged, bySections, testReply, TestSays, AcceptsEnough}
 use Rattle.tables.proofs.Standing.{sum-all, right-still, still-right, still-gives, zero-settled}
 
@@ -54,11 +55,13 @@ refusalAt : ℕ → ℕ → TestAnswer
 refusalAt number i =
     cond (eqb number 6) (damaged i)
     (cond (eqb number 7) (bySections (refuses (shortTable i)))
-    (cond (eqb number 8) (bySections (refuses (unplaced i)))
+    (cond (eqb number 8) (bySections (refuses (unplaced directMark i)))
     (cond (eqb number 9) (bySections (refuses (placedApart i)))
     (cond (eqb number 16) (bySections (refuses (differs i)))
     (cond (eqb number 10) (bySections (refuses (tooNarrow i)))
-    (bySections (refuses (backward i))))))))
+    (cond (eqb number 17) (bySections (refuses (unplaced deltaStart i)))
+    (cond (eqb number 18) (bySections (refuses (unplaced deltaEnd i)))
+    (bySections (refuses (backward i))))))))))
 
 -- the answer that a reply stands for
 pub answerOf : Reply Laid → TestAnswer
@@ -71,7 +74,9 @@ unfolding answerOf refusalAt
 answer-back (damaged i) = refl
 answer-back (bySections (accepts n)) = refl
 answer-back (bySections (refuses (shortTable i))) = refl
-answer-back (bySections (refuses (unplaced i))) = refl
+answer-back (bySections (refuses (unplaced directMark i))) = refl
+answer-back (bySections (refuses (unplaced deltaStart i))) = refl
+answer-back (bySections (refuses (unplaced deltaEnd i))) = refl
 answer-back (bySections (refuses (placedApart i))) = refl
 answer-back (bySections (refuses (differs i))) = refl
 answer-back (bySections (refuses (tooNarrow i))) = refl
@@ -154,12 +159,12 @@ module _ (table : List ℕ) (ss : List Section) where
   abbrev walkAnswer : TableAnswer
   walkAnswer = orElse ss (firstWrong table ss) (wrong table ss) lastAnswer
 
-  -- where 7, 8 and 9 aren't answered
+  -- where 7, 8, 17, 18 and 9 aren't answered
   sound-answer : Sound (length table) ss → tableAnswer table ss ≡ walkAnswer
   unfolding tableAnswer firstShort firstUnplaced firstApart
   sound-answer h =
       first-miss ss (shortAt (length table) ss) (λ i. refuses (shortTable i)) _ (h .0)
-      ∙ first-miss ss (unplacedAt ss) (λ i. refuses (unplaced i)) _ (h .1)
+      ∙ first-miss ss (unplacedAt ss) (λ i. refuses (missed ss i)) _ (h .1)
       ∙ first-miss ss (apartAt ss) (λ i. refuses (placedApart i)) _ (h .2)
 
   -- nor 16 and 10
@@ -180,12 +185,13 @@ module _ (table : List ℕ) (ss : List Section) where
       sound-answer (h .0) ∙ right-answer (right-all .1 (h .1, h .2))
       ∙ first-miss ss (backwardAt table ss) (λ i. refuses (backward i)) _ (h .3) ∙ ap accepts (sym (h .4))
   says-answer (refuses (shortTable i)) h = first-hit ss (shortAt (length table) ss) (λ j. refuses (shortTable j)) _ i h
-  says-answer (refuses (unplaced i)) h =
+  says-answer (refuses (unplaced x i)) h =
       first-miss ss (shortAt (length table) ss) (λ j. refuses (shortTable j)) _ (h .0)
-      ∙ first-hit ss (unplacedAt ss) (λ j. refuses (unplaced j)) _ i (h .1)
+      ∙ first-hit ss (unplacedAt ss) (λ j. refuses (missed ss j)) _ i (h .1)
+      ∙ ap (λ (y : Missing). refuses (unplaced y i)) (h .2)
   says-answer (refuses (placedApart i)) h =
       first-miss ss (shortAt (length table) ss) (λ j. refuses (shortTable j)) _ (h .0)
-      ∙ first-miss ss (unplacedAt ss) (λ j. refuses (unplaced j)) _ (h .1)
+      ∙ first-miss ss (unplacedAt ss) (λ j. refuses (missed ss j)) _ (h .1)
       ∙ first-hit ss (apartAt ss) (λ j. refuses (placedApart j)) _ i (h .2)
   says-answer (refuses (differs i)) h =
       let l : i < length ss = h .1 .1 .0 in
@@ -237,7 +243,7 @@ module _ (table : List ℕ) (ss : List Section) where
       apart h g (inr q) = said-sound (h, g, q)
 
       placing : Never ss (shortAt (length table) ss) → ((i : ℕ) × IsFirst ss (unplacedAt ss) i) ⊎ Never ss (unplacedAt ss) → (a : TableAnswer) × TableSays table ss a
-      placing h (inl q) = (refuses (unplaced (q .0)), (h, q .1))
+      placing h (inl q) = (refuses (unplaced (missingAt ss (q .0)) (q .0)), (h, q .1, refl))
       placing h (inr q) = apart h q (first-or-never ss (apartAt ss))
 
       short : ((i : ℕ) × IsFirst ss (shortAt (length table) ss) i) ⊎ Never ss (shortAt (length table) ss) → (a : TableAnswer) × TableSays table ss a

@@ -15,7 +15,7 @@ use Rattle.records.specs.Sections.{Section, reference, decode}
 use Rattle.undamaged.specs.View.{Undamaged, DamagedAt}
 use Rattle.layout.specs.Layout.{inAll, GivesEnough}
 use Rattle.layout.specs.Passes.{entry, valueBy, sizeBy}
-use Rattle.layout.specs.Conditions.{sectionAt, IsFirst, Never, shortAt, unplacedAt, apartAt, backwardAt, sumOf}
+use Rattle.layout.specs.Conditions.{sectionAt, IsFirst, Never, shortAt, unplacedAt, missingAt, apartAt, backwardAt, sumOf}
 use Rattle.layout.specs.ConditionLaws.{Places}
 use Rattle.layout.specs.Shortest.{settledLayout}
 use Rattle.layout.specs.Answer.{Laid, Sound}
@@ -42,13 +42,14 @@ Agrees table ss = (i m : ℕ) → Places ss i m → entry table m ≡ sumBefore 
 
 -- the condition of each answer over a list of sections
 abbrev pub TableSays : List ℕ → List Section → TableAnswer → Type 0
--- accepted, with the sum of sizes: 7, 8, 9, 16, 10 and 12 don't hold
+-- accepted, with the sum of sizes: 7, 8, 17, 18, 9, 16, 10 and 12 don't hold
 TableSays table ss (accepts size) =
     Sound (length table) ss × Agrees table ss × ((i : ℕ) → Narrow table ss i → ⊥) × Never ss (backwardAt table ss)
     × (size ≡ sumOf (sizeBy (entry table)) ss)
--- 7, 8 and 9 as of settling
+-- 7; 8, 17 and 18; 9: as of settling
 TableSays table ss (refuses (shortTable i)) = IsFirst ss (shortAt (length table) ss) i
-TableSays table ss (refuses (unplaced i)) = Never ss (shortAt (length table) ss) × IsFirst ss (unplacedAt ss) i
+TableSays table ss (refuses (unplaced x i)) =
+    Never ss (shortAt (length table) ss) × IsFirst ss (unplacedAt ss) i × (missingAt ss i ≡ x)
 TableSays table ss (refuses (placedApart i)) =
     Never ss (shortAt (length table) ss) × Never ss (unplacedAt ss) × IsFirst ss (apartAt ss) i
 -- 16 and 10: 'the earlier section winning'

@@ -1,5 +1,5 @@
--- Document 02, request 3: what a write tests of a store and 'a lent offset table from anyone', all but the room for the code (13). 7, 8 and
--- 9 are settling's (layout/specs/Conditions), and so is 12, by this table; 16 and 10 are found in one walk. Readings 65 to 67 of
+-- Document 02, request 3: what a write tests of a store and 'a lent offset table from anyone', all but the room for the code (13). 7, 8, 17,
+-- 18 and 9 are settling's (layout/specs/Conditions), and so is 12, by this table; 16 and 10 are found in one walk. Readings 65 to 67 of
 -- docs/DECISIONS.md. Assumes nothing.
 use Prim.Native.Nat.{ℕ}
 use mathlib.Core.Bool.{Bool, false, cond, _||_}
@@ -17,7 +17,8 @@ use Rattle.records.specs.declared.damage.Soundness.{Soundness}
 use Rattle.records.specs.declared.damage.Soundness.the-variants.{Sound, Damaged}
 use Rattle.layout.specs.Passes.{entry, valueBy, sizeBy, unlike}
 use Rattle.layout.specs.Conditions.{sectionAt, first, placesSome, sumOf, firstShort, firstUnplaced, firstApart, firstBackward}
-use Rattle.layout.specs.Answer.{Laid}
+use Rattle.layout.specs.Conditions.{Missing, missingAt}
+use Rattle.layout.specs.Answer.{Laid, missingNumber}
 
 -- ---- one walk for 16 and 10
 
@@ -53,7 +54,8 @@ firstWrong table ss = first ss (wrongAt table ss)
 -- why a table isn't accepted for a list of sections: the section
 pub data TableRefusal : Type 0 where
   shortTable : ℕ → TableRefusal
-  unplaced : ℕ → TableRefusal
+  -- 8, 17 or 18: the mark that the section misses as well
+  unplaced : Missing → ℕ → TableRefusal
   placedApart : ℕ → TableRefusal
   differs : ℕ → TableRefusal
   tooNarrow : ℕ → TableRefusal
@@ -69,15 +71,19 @@ pub data TableAnswer : Type 0 where
 abbrev pub orElse : List Section → ℕ → (ℕ → TableRefusal) → TableAnswer → TableAnswer
 orElse ss i refusal next = cond (ltb i (length ss)) (refuses (refusal i)) next
 
+-- 8, 17 or 18, of the first section with an unplaced mark
+abbrev pub missed : List Section → ℕ → TableRefusal
+missed ss i = unplaced (missingAt ss i) i
+
 -- 16 or 10, of the section that the walk found
 abbrev pub wrong : List ℕ → List Section → ℕ → TableRefusal
 wrong table ss i = cond (differsAt table ss i) (differs i) (tooNarrow i)
 
--- 7, 8, 9; '16 .. after 9; it shares one walk with 10 ..; then 12'
+-- 7; 8, 17 or 18; 9; '16 .. after 9; it shares one walk with 10 ..; then 12'
 unfoldable pub tableAnswer : List ℕ → List Section → TableAnswer
 tableAnswer table ss =
     orElse ss (firstShort (length table) ss) shortTable
-    (orElse ss (firstUnplaced ss) unplaced
+    (orElse ss (firstUnplaced ss) (missed ss)
     (orElse ss (firstApart ss) placedApart
     (orElse ss (firstWrong table ss) (wrong table ss)
     (orElse ss (firstBackward table ss) backward (accepts (sumOf (sizeBy (entry table)) ss))))))
@@ -87,7 +93,7 @@ tableAnswer table ss =
 -- the number and section of each refusal; 'the write reports 0 passes'
 abbrev pub tableNumbers : TableRefusal → RefusalNumbers
 tableNumbers (shortTable i) = number.numbersAt number.shortTable i 0
-tableNumbers (unplaced i) = number.numbersAt number.unplaced i 0
+tableNumbers (unplaced x i) = number.numbersAt (missingNumber x) i 0
 tableNumbers (placedApart i) = number.numbersAt number.placedApart i 0
 tableNumbers (differs i) = number.numbersAt number.entryDiffers i 0
 tableNumbers (tooNarrow i) = number.numbersAt number.tooNarrow i 0

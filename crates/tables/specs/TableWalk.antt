@@ -29,7 +29,7 @@ pub record ComparedTo (table : List ℕ) (ss : List Section) (compared : Compare
   pub size : length ss ≤ compared .stopped → compared .length ≡ sumOf (sizeBy (entry table)) ss
   pub backward : length ss ≤ compared .stopped → compared .backward ≡ firstBackward table ss
 
--- 8, of a section by its words
+-- 8, 17 or 18, of a section by its words
 unfoldable pub unplacedBy : List ℕ → StoredSection → Bool
 unplacedBy map x =
     leb directKind (x .kind) && (not (inMap map (x .first)) || ltb directKind (x .kind) && not (inMap map (x .second)))

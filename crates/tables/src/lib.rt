@@ -8,6 +8,7 @@ mod section;
 
 use compare::compare;
 use map::clear_map;
+use map::in_map;
 use map::large_map;
 use map::small_map;
 use records::Assembler;
@@ -20,6 +21,8 @@ use search::first_unplaced;
 use search::put_marks;
 use section::section_words;
 use settling::Settled;
+use settling::missing_refusal;
+use units::MarkId;
 use units::Refusal;
 ghost use mathlib.Core.Path.{_≡_};
 ghost use Prim.Native.Nat.{_≤_};
@@ -30,13 +33,14 @@ ghost use Rattle.settling.specs.Settle.{settledReply};
 ghost use Rattle.settling.specs.SectionWalk.{sectionsOf, Whole, Fitting};
 ghost use Rattle.tables.specs.TableTests.{wrongAt, tableAnswer, tableReply, tableTest};
 ghost use Rattle.tables.specs.TableAnswers.{AcceptsEnough};
-ghost use Rattle.tables.specs.MarkMap.{Covers};
+ghost use Rattle.tables.specs.MarkMap.{Covers, Marked};
 
 // A table of at most so many entries has the small map.
 const SMALL: usize = 16384;
 
 // Whether a store's code can be written by a table, whatever they hold: its length in all, with 0 passes. Refusals: 6 damaged,
-// 7 short table, 8 unplaced, 9 placed apart, 16 an entry that differs or 10 too narrow, 12 backward. Nothing is changed.
+// 7 short table, 8 a direct reference's mark unplaced, 17 a delta's start, 18 its end, 9 placed apart, 16 an entry that differs or 10 too
+// narrow, 12 backward. Nothing is changed.
 pub fn check_table(store: Assembler, bytes: &[u8], words: &[u32], table: &[u32]) -> Settled
     ensures reply { λ r.
         ⌜ settledReply r
@@ -79,8 +83,8 @@ fn check_large(store: Assembler, bytes: &[u8], words: &[u32], table: &[u32]) -> 
     check_whole(store, bytes, words, table, &mut map)
 }
 
-// 7, 8, 9, 16 or 10, and 12, of an undamaged store; the map is of no mark. Where none of them is the answer the sections are walked once,
-// and once more for 8 unless every mark that the table has room for is placed.
+// 7; 8, 17 or 18; 9; 16 or 10; and 12, of an undamaged store; the map is of no mark. Where none of them is the answer the sections are
+// walked once, and once more for 8, 17 and 18 unless every mark that the table has room for is placed.
 fn check_whole(
     store: Assembler,
     bytes: &[u8],
@@ -104,7 +108,7 @@ fn check_whole(
     put_marks(store, bytes, words, table, stopped, store.sections, map);
     let unplaced = first_unplaced(store, bytes, words, table, map);
     if unplaced < store.sections {
-        return Settled::Refused(Refusal::Unplaced { section: unplaced });
+        return refuse_unplaced(store, bytes, words, table, unplaced, map);
     }
     if stopped < store.sections {
         return refuse_wrong(store, bytes, words, table, stopped, map);
@@ -120,6 +124,28 @@ fn check_whole(
         length: compared.length,
         passes: 0,
     }
+}
+
+// 8, 17 or 18: the section that the search found is read once more for which mark it misses.
+fn refuse_unplaced(
+    store: Assembler,
+    bytes: &[u8],
+    words: &[u32],
+    table: &[u32],
+    at: u32,
+    map: &[u8],
+) -> Settled
+    requires { ⌜ Fitting store (now bytes) (now words) (length (now table)) ⌝ }
+    requires { ⌜ Covers (length (now table)) (now map) ⌝ }
+    requires { ⌜ Marked (sectionsOf store (now bytes) (now words)) (store .sections) (now map) ⌝ }
+    requires { ⌜ IsFirst (sectionsOf store (now bytes) (now words)) (unplacedAt (sectionsOf store (now bytes) (now words))) at ⌝ }
+    ensures { λ r.
+        ⌜ settledReply r
+        ≡ tableReply (tableAnswer (now (table .entry)) (sectionsOf store (now (bytes .entry)) (now (words .entry)))) ⌝ }
+{
+    let section = section_words(words, at as usize);
+    let start_placed = in_map(map, MarkId(section.first));
+    Settled::Refused(missing_refusal(section, start_placed, at))
 }
 
 // 9, or else 16 or 10 at the section that the walk found.

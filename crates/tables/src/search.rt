@@ -1,5 +1,5 @@
-// The searches that a walk leaves to be done: 7 from where it stopped, the marks placed from there on, 8 by the map, and, where it stopped,
-// 9. Each search answers the first section with a property, the count of sections if there is none.
+// The searches that a walk leaves to be done: 7 from where it stopped, the marks placed from there on, 8, 17 or 18 by the map, and, where it
+// stopped, 9. Each search answers the first section with a property, the count of sections if there is none.
 use crate::map::all_in_map;
 use crate::map::in_map;
 use crate::map::put_in_map;
@@ -71,7 +71,7 @@ pub(crate) fn put_marks(
     }
 }
 
-// 8, for one section, by the map of the marks that are placed.
+// 8, 17 or 18, for one section, by the map of the marks that are placed.
 fn is_unplaced(section: StoredSection, map: &[u8]) -> bool
     requires { ⌜ MarksIn (8 * length (now map)) section ⌝ }
     ensures { λ r. ⌜ r ≡ unplacedBy (now (map .entry)) section ⌝ }

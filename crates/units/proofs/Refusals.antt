@@ -22,6 +22,8 @@ two-digits (reply.Backward i k) = omega arith
 two-digits (reply.ResultFull k) = omega arith
 two-digits reply.ListingFull = omega arith
 two-digits (reply.EntryDiffers i) = omega arith
+two-digits (reply.StartUnplaced i) = omega arith
+two-digits (reply.EndUnplaced i) = omega arith
 
 -- so it is below 256
 pub number-small : (r : Refusal) → refusalNumbers r .number < 2 ^ 8

@@ -1,10 +1,11 @@
--- Document 01, 'Replies', and document 02, request 3 (16): the number, section and passes of each refusal.
+-- Document 01, 'Replies', and document 02, requests 3 (16) and 5 (17, 18): the number, section and passes of each refusal.
 -- Contracts of the calls speak of an answer through these definitions. Assumes nothing.
 use Prim.Native.Nat.{ℕ}
 use Rattle.units.specs.declared.reply.Refusal.{Refusal}
 use Rattle.units.specs.declared.reply.Refusal.the-variants.{BadDepth, BadWord, LargeMark, BytesFull, SectionsFull}
 use Rattle.units.specs.declared.reply.Refusal.the-variants.{Damaged, ShortTable, Unplaced, PlacedApart, TooNarrow}
 use Rattle.units.specs.declared.reply.Refusal.the-variants.{Unsettled, Backward, ResultFull, ListingFull, EntryDiffers}
+use Rattle.units.specs.declared.reply.Refusal.the-variants.{StartUnplaced, EndUnplaced}
 
 -- the numbers of the table of replies, by its names
 abbrev pub badDepth : ℕ
@@ -28,6 +29,7 @@ damaged = 6
 abbrev pub shortTable : ℕ
 shortTable = 7
 
+-- since document 02, request 5, 'a direct reference's mark only'
 abbrev pub unplaced : ℕ
 unplaced = 8
 
@@ -52,6 +54,14 @@ listingFull = 14
 -- document 02, request 3: 'an entry that differs'
 abbrev pub entryDiffers : ℕ
 entryDiffers = 16
+
+-- document 02, request 5: 'a delta's start unplaced'
+abbrev pub startUnplaced : ℕ
+startUnplaced = 17
+
+-- 'a delta's end unplaced'
+abbrev pub endUnplaced : ℕ
+endUnplaced = 18
 
 -- the passes allowed; those made when number 11 is given
 abbrev pub maxPasses : ℕ
@@ -84,3 +94,5 @@ refusalNumbers (Backward i k) = numbersAt backward i k
 refusalNumbers (ResultFull k) = numbersAt resultFull 0 k
 refusalNumbers ListingFull = numbersAt listingFull 0 0
 refusalNumbers (EntryDiffers i) = numbersAt entryDiffers i 0
+refusalNumbers (StartUnplaced i) = numbersAt startUnplaced i 0
+refusalNumbers (EndUnplaced i) = numbersAt endUnplaced i 0

@@ -1,5 +1,5 @@
-// Document 01, 'Replies', and document 02, request 3 (16): every refusal as a case of one enum, with the section and the passes that differ
-// from call to call.
+// Document 01, 'Replies', and document 02, requests 3 (16) and 5 (17, 18): every refusal as a case of one enum, with the section and the
+// passes that differ from call to call.
 // The definition `refusalNumbers` gives each case its number, section and passes; the functions below are the same for programs.
 ghost use mathlib.Core.Path.{_≡_};
 ghost use Rattle.units.specs.Replies.{refusalNumbers};
@@ -21,6 +21,8 @@ pub enum Refusal {
     ResultFull { passes: u32 },
     ListingFull,
     EntryDiffers { section: u32 },
+    StartUnplaced { section: u32 },
+    EndUnplaced { section: u32 },
 }
 
 impl Refusal {
@@ -50,6 +52,8 @@ impl Refusal {
             Refusal::ResultFull { passes: _ } => 13,
             Refusal::ListingFull => 14,
             Refusal::EntryDiffers { section: _ } => 16,
+            Refusal::StartUnplaced { section: _ } => 17,
+            Refusal::EndUnplaced { section: _ } => 18,
         }
     }
 
@@ -73,6 +77,8 @@ impl Refusal {
             Refusal::ResultFull { passes: _ } => 0,
             Refusal::ListingFull => 0,
             Refusal::EntryDiffers { section } => section,
+            Refusal::StartUnplaced { section } => section,
+            Refusal::EndUnplaced { section } => section,
         }
     }
 
@@ -96,6 +102,8 @@ impl Refusal {
             Refusal::ResultFull { passes } => passes,
             Refusal::ListingFull => 0,
             Refusal::EntryDiffers { section: _ } => 0,
+            Refusal::StartUnplaced { section: _ } => 0,
+            Refusal::EndUnplaced { section: _ } => 0,
         }
     }
 }

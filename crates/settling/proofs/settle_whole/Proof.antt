@@ -1,4 +1,5 @@
--- 7 and 9 by what the walk of the placings found, 8 by the search, then the settling. The table is 0 again before 7, 8 and 9 are answered.
+-- 7 and 9 by what the walk of the placings found, 8, 17 or 18 by the search, then the settling. The table is 0 again before they are
+-- answered.
 -- Assumes nothing.
 use Prim.Native.Nat.{ℕ, _<_}
 use native.Mathlib.Omega.{arith}
@@ -11,7 +12,7 @@ use Rattle.records.specs.Store.{storeOf, wordsPerSection}
 use Rattle.records.specs.Sections.{Section}
 use Rattle.layout.specs.Passes.{start as start-table, settle}
 use Rattle.layout.specs.Conditions.{Never, shortAt, firstShort, unplacedAt, firstUnplaced, apartAt, firstApart}
-use Rattle.layout.specs.Answer.{shortTable, unplaced, placedApart, settlingAnswer, answerReply, answerTable}
+use Rattle.layout.specs.Answer.{shortTable, placedApart, settlingAnswer, answer, answerReply, answerTable}
 use Rattle.layout.proofs.Least.{none-found}
 use Rattle.layout.proofs.Answers.{short-law, unplaced-law, apart-law}
 use Rattle.settling.specs.SectionWalk.{sectionsOf, Fitting, firstSums, Placed}
@@ -109,8 +110,17 @@ first-unplaced-requires c κs =
     let p = walk (at-if1 .before) in
     (subst (Fitting _ _ _) (sym (kept p)) (fits at-if1), placed at-if1 .sums ∙ ap (λ (n : ℕ). firstSums n (sections (entry p))) (sym (kept p)))
 
-refuse-requires-2 : tie.Need-refuse-requires-2
-refuse-requires-2 c κs = search needs
+refuse-unplaced-requires : tie.Need-refuse-unplaced-requires
+refuse-unplaced-requires c κs =
+    let at-if2 = c .before in
+    let found = at-if2 .before .before in
+    let at-if1 = unshort found in
+    let p = walk (at-if1 .before) in
+    let s = entry p in
+    let less : found .first-unplaced .result < length (sections s) = omega (arith, count s, at-if2 .if2 .taken) in (
+      subst (Fitting _ _ _) (sym (kept p)) (fits at-if1),
+      (placed at-if1 .sums ∙ ap (λ (n : ℕ). firstSums n (sections s)) (sym (kept p)), unplaced-law _ _ .0 (sym (found .first-unplaced .ensures), less)),
+    )
 
 same-length-2 : tie.Need-same-length-2
 same-length-2 c = search needs
@@ -118,18 +128,15 @@ same-length-2 c = search needs
 returns-2 : tie.Need-returns-2
 returns-2 c =
     let refusing = c .before .before in
-    let at-if2 = refusing .before .before in
-    let found = at-if2 .before .before in
-    let s = start found in
-    let less : found .first-unplaced .result < length (sections s) = omega (arith, count s, at-if2 .if2 .taken) in
-    let said =
-    answers-said (long s) (sections s) (unplaced _) _
-    (never-short (unshort found), unplaced-law _ _ .0 (sym (found .first-unplaced .ensures), less))
-    (refusing .refuse2 .ensures .1 ∙ ap (λ (n : ℕ). replicate n 0) (kept (walk (unshort found .before)))) in
-    (ap settledReply (refusing .refuse2 .ensures .0) ∙ said .0, said .1)
+    let found = refusing .before .before .before .before in
+    let ss = sections (start found) in
+    let same = kept (walk (unshort found .before)) in (
+      refusing .refuse-unplaced .ensures .0 ∙ ap (λ (n : ℕ). answerReply (answer n ss)) same,
+      refusing .refuse-unplaced .ensures .1 ∙ ap (λ (n : ℕ). answerTable n (answer n ss)) same,
+    )
 
-refuse-requires-3 : tie.Need-refuse-requires-3
-refuse-requires-3 c κs = search needs
+refuse-requires-2 : tie.Need-refuse-requires-2
+refuse-requires-2 c κs = search needs
 
 same-length-3 : tie.Need-same-length-3
 same-length-3 c = search needs
@@ -144,8 +151,8 @@ returns-3 c =
     let said =
     answers-said (long s) (sections s) (placedApart _) _
     (never-short (unshort found), never-unplaced (at-if3 .before .before), apart-law _ _ .0 (sym (placed (unshort found) .apart), less))
-    (refusing .refuse3 .ensures .1 ∙ ap (λ (n : ℕ). replicate n 0) (kept (walk (unshort found .before)))) in
-    (ap settledReply (refusing .refuse3 .ensures .0) ∙ said .0, said .1)
+    (refusing .refuse2 .ensures .1 ∙ ap (λ (n : ℕ). replicate n 0) (kept (walk (unshort found .before)))) in
+    (ap settledReply (refusing .refuse2 .ensures .0) ∙ said .0, said .1)
 
 settle-placed-requires : tie.Need-settle-placed-requires
 settle-placed-requires c κs =
@@ -181,10 +188,10 @@ settle-whole-spec =
     same-length
     returns
     first-unplaced-requires
-    refuse-requires-2
+    refuse-unplaced-requires
     same-length-2
     returns-2
-    refuse-requires-3
+    refuse-requires-2
     same-length-3
     returns-3
     settle-placed-requires

@@ -1,9 +1,9 @@
--- The walk, 7 from where it stopped, 8 by the map of all marks placed, then what the walk found: a 16 or a 10 (or a 9 before it), else 12.
--- Assumes nothing.
+-- The walk, 7 from where it stopped, 8, 17 or 18 by the map of all marks placed, then what the walk found: a 16 or a 10 (or a 9 before it),
+-- else 12. Assumes nothing.
 use Prim.Native.Nat.{ℕ, _≤_}
 use native.Mathlib.Omega.{arith}
 use native.Mathlib.Nat.{le-refl}
-use mathlib.Core.Path.{_≡_}
+use mathlib.Core.Path.{_≡_, sym}
 use mathlib.Core.List.{List}
 use lib.ListN.{length}
 use borrow.Author.Needs.{needs}
@@ -11,13 +11,14 @@ use denote.Ref.{now}
 use Rattle.records.specs.Store.{storeOf, wordsPerSection}
 use Rattle.records.specs.Sections.{Section}
 use Rattle.layout.specs.Conditions.{Never, shortAt, firstShort, unplacedAt, firstUnplaced}
+use Rattle.layout.proofs.Answers.{unplaced-law}
 use Rattle.layout.proofs.Least.{none-found}
 use Rattle.settling.specs.SectionWalk.{sectionsOf, Fitting}
 use Rattle.settling.proofs.Sections.{decode-count}
 use Rattle.tables.specs.MarkMap.{Covers}
 use Rattle.tables.specs.TableTests.{wrongAt}
 use Rattle.tables.proofs.Turns.{covers-same}
-use Rattle.tables.proofs.Checks.{stop-within, none-short, first-wrong, none-wrong, is-short, is-unplaced, is-backward, is-agreed}
+use Rattle.tables.proofs.Checks.{stop-within, none-short, first-wrong, none-wrong, is-short, is-backward, is-agreed}
 use Rattle.tables.proofs.check_whole.Statement.{statement}
 use Rattle.tables.proofs.check_whole.Tie as tie
 
@@ -136,15 +137,28 @@ first-unplaced-requires c κs =
     let marks = c .before .before .before in
     (fits (unshort marks), (marked-covers marks, marks .put-marks .ensures))
 
+refuse-unplaced-requires : tie.Need-refuse-unplaced-requires
+refuse-unplaced-requires c κs =
+    let at-if2 = c .before in
+    let found = at-if2 .before .before in
+    let marks = marking found in
+    let e1 = unshort marks in
+    let s = start e1 in (
+      fits e1,
+      (
+        marked-covers marks,
+        (
+          marks .put-marks .ensures,
+          unplaced-law (sections s) _ .0 (sym (found .first-unplaced .ensures), omega (arith, at-if2 .if2 .taken, count s)),
+        ),
+      ),
+    )
+
 same-length-2 : tie.Need-same-length-2
 same-length-2 c = search needs
 
 returns-2 : tie.Need-returns-2
-returns-2 c =
-    let found = c .before .before in
-    let e1 = unshort (marking found) in
-    let s = start e1 in
-    is-unplaced (table-of s) (sections s) (never-short e1) _ (found .first-unplaced .ensures) (omega (arith, c .if2 .taken, count s))
+returns-2 c = c .refuse-unplaced .ensures
 
 refuse-wrong-requires : tie.Need-refuse-wrong-requires
 refuse-wrong-requires c κs =
@@ -205,6 +219,7 @@ check-whole-spec =
     returns
     put-marks-requires
     first-unplaced-requires
+    refuse-unplaced-requires
     same-length-2
     returns-2
     refuse-wrong-requires
