@@ -141,6 +141,37 @@ static void pairs(void) {
     SAME(sadrokki_write(0, bytes, 0, words, 0, table, 0, code, 0, 0), 0);
 }
 
+static void missing(void) {
+    uint8_t bytes[1] = {0}, code[16];
+    uint32_t words[3 * 3], table[8];
+    /* Two references after mark 0, the first refused: start and end of it, of the other, the number and the mark; start and end are
+     * the same in a direct one. */
+    const struct { uint32_t start, end, then_start, then_end, number, mark; } cases[] = {
+        {5, 0, 6, 6, SADROKKI_START_UNPLACED, 5}, {0, 5, 6, 6, SADROKKI_END_UNPLACED, 5}, {6, 6, 5, 0, SADROKKI_UNPLACED, 6},
+        {6, 6, 0, 5, SADROKKI_UNPLACED, 6}, {6, 5, 7, 7, SADROKKI_START_UNPLACED, 6}, {5, 6, 0, 7, SADROKKI_START_UNPLACED, 5},
+    };
+    for (size_t i = 0; i < sizeof cases / sizeof *cases; i++) {
+        uint64_t state = 0;
+        state = sadrokki_push_mark(STORE, 0);
+        for (int j = 0; j < 2; j++) {
+            uint32_t start = j ? cases[i].then_start : cases[i].start, end = j ? cases[i].then_end : cases[i].end;
+            state = start == end ? sadrokki_push_direct(STORE, start, SADROKKI_PUSHED) : sadrokki_push_delta(STORE, start, end, SADROKKI_PUSHED);
+        }
+        SAME(state, ANSWER(0, 3, 0));
+        uint64_t answer = sadrokki_assemble(STORE, table, 8, code, 16, 0);
+        SAME(answer, ANSWER(cases[i].number, 0, 1));
+        SAME(SADROKKI_MISSING(answer, words), cases[i].mark);
+        SAME(sadrokki_settle(STORE, table, 8), answer);
+        SAME(sadrokki_write(STORE, table, 8, code, 16, 0), answer);
+    }
+
+    /* One mark as both ends of a delta. */
+    uint64_t state = 0;
+    state = sadrokki_push_delta(STORE, 7, 7, 2);
+    SAME(sadrokki_settle(STORE, table, 8), ANSWER(17, 0, 0));
+    SAME(SADROKKI_MISSING(ANSWER(17, 0, 0), words), 7);
+}
+
 static void scans(void) {
     uint8_t word[32] = {0};
     const uint8_t three[] = {0, 0, 7};
@@ -217,6 +248,7 @@ int main(void) {
 
     runs();
     pairs();
+    missing();
     scans();
 
     /* Refusals, and arguments that name nothing. */

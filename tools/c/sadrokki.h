@@ -7,8 +7,10 @@
  * Answer: number * 2^56 + mid * 2^32 + low.
  *   number 0, accepted: a building call's answer is the next state; assemble, settle, write: mid = passes (0 for write),
  *     low = code length; write_asm: the whole answer is the text's length; op_name, size_for, least_size: low = bytes.
- *   number 1 to 14, a refusal of document 01, or 16, of document 02 (write: an entry of the table differs from the sum of
- *     sizes before its mark): mid = passes (0 for write), low = section.
+ *   number 1 to 14, a refusal of document 01, or 16 to 18, of document 02: mid = passes (0 for write), low = section.
+ *     8, 17 and 18, of the first reference to a mark that is nowhere placed: 8, it is direct; 17, the start of a delta isn't
+ *     placed, be its end placed or not; 18, the end of a delta isn't, and its start is. SADROKKI_MISSING is the mark's number.
+ *     16, of write: an entry of the table differs from the sum of sizes before its mark.
  *   number 255: an argument names nothing; nothing changed.
  *   An empty run of op bytes is accepted and answers its state, whatever number that has.
  *   leading_zeros is never refused: its whole answer is two counts added, which SADROKKI_ZEROS and SADROKKI_LOOKED take out.
@@ -30,6 +32,12 @@
 #define SADROKKI_ZEROS(answer) ((answer) / 2)
 #define SADROKKI_LOOKED(answer) (((answer) + 1) / 2)
 #define SADROKKI_PUSHED 8
+#define SADROKKI_UNPLACED 8
+#define SADROKKI_START_UNPLACED 17
+#define SADROKKI_END_UNPLACED 18
+/* Of an answer with one of these numbers, and the words of its store: a section's second word is a direct reference's mark or a
+ * delta's start, its third a delta's end. */
+#define SADROKKI_MISSING(answer, words) ((words)[3 * (size_t)SADROKKI_LOW(answer) + (SADROKKI_NUMBER(answer) == SADROKKI_END_UNPLACED ? 2 : 1)])
 
 #ifdef __cplusplus
 extern "C" {
@@ -56,17 +64,18 @@ uint64_t sadrokki_push_data(uint64_t state, uint8_t *bytes, size_t bytes_len, ui
 uint64_t sadrokki_push_direct(uint64_t state, const uint8_t *bytes, size_t bytes_len, uint32_t *words, size_t words_len, uint32_t mark, uint32_t form);
 uint64_t sadrokki_push_delta(uint64_t state, const uint8_t *bytes, size_t bytes_len, uint32_t *words, size_t words_len, uint32_t start, uint32_t end, uint32_t form);
 
-/* The code into result from position on, the marks' offsets into table: entry m is mark m's. Refusals: 6 to 13 (7: a mark placed
- * or named isn't below table_len), each leaving table all 0 and result as it was. */
+/* The code into result from position on, the marks' offsets into table: entry m is mark m's. Refusals: 6 to 13, 17 and 18 (7: a
+ * mark placed or named isn't below table_len), each leaving table all 0 and result as it was. */
 uint64_t sadrokki_assemble(uint64_t state, const uint8_t *bytes, size_t bytes_len, const uint32_t *words, size_t words_len, uint32_t *table, size_t table_len, uint8_t *result, size_t result_len, size_t position);
-/* The same in two calls. Settling is assembly without its code: refusals 6 to 12, each leaving table all 0. Accepted, table
- * holds the offsets (0 for marks that aren't placed), and the answer's low half is the length that the code will have. */
+/* The same in two calls. Settling is assembly without its code: refusals 6 to 12, 17 and 18, each leaving table all 0.
+ * Accepted, table holds the offsets (0 for marks that aren't placed), and the answer's low half is the length that the code will
+ * have. */
 uint64_t sadrokki_settle(uint64_t state, const uint8_t *bytes, size_t bytes_len, const uint32_t *words, size_t words_len, uint32_t *table, size_t table_len);
 /* The code into result from position on, by a table that is only read: settling's, or any in which each placed mark's entry is
  * the sum of sizes, by that table, of the sections before it. From settling's, the store being as it was, it is assemble's
- * code; from another it need not be the shortest. Refusals: 6, 7, 8, 9; 16, such an entry differs, or 10, a reference is too
- * narrow for its value by the table, whichever section comes first; 12; 13. Refused, nothing has changed. It takes about
- * 130 KiB of the caller's stack. */
+ * code; from another it need not be the shortest. Refusals: 6; 7; 8, 17 or 18; 9; 16, such an entry differs, or 10, a
+ * reference is too narrow for its value by the table, whichever section comes first; 12; 13. Refused, nothing has changed. It
+ * takes about 130 KiB of the caller's stack. */
 uint64_t sadrokki_write(uint64_t state, const uint8_t *bytes, size_t bytes_len, const uint32_t *words, size_t words_len, const uint32_t *table, size_t table_len, uint8_t *result, size_t result_len, size_t position);
 /* The listing to the start of text. */
 uint64_t sadrokki_write_asm(uint64_t state, const uint8_t *bytes, size_t bytes_len, const uint32_t *words, size_t words_len, uint8_t *text, size_t text_len);

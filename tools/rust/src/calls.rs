@@ -1,8 +1,6 @@
 //! The exported functions with slices: the only `unsafe` code. Every function takes every argument, so that each is safe with
 //! slices as Rust has them.
 
-use crate::AssembleError;
-
 /// number * 2^56 + mid * 2^32 + low
 #[derive(Clone, Copy)]
 pub struct Answer(pub u64);
@@ -22,7 +20,7 @@ impl Answer {
 
     /// The name in document 01's table of replies, or what document 02 says of its number.
     pub fn name(self) -> &'static str {
-        const NAMES: [&str; 17] = [
+        const NAMES: [&str; 19] = [
             "accepted",
             "bad depth",
             "bad word",
@@ -40,22 +38,13 @@ impl Answer {
             "listing full",
             "no job",
             "entry differs",
+            "start unplaced",
+            "end unplaced",
         ];
         NAMES
             .get(self.number() as usize)
             .copied()
             .unwrap_or("an argument names nothing")
-    }
-
-    pub fn error(self, number: u32) -> AssembleError {
-        match number {
-            10 => AssembleError::RefHasTooSmallSetSize(self.low()),
-            _ => AssembleError::Refused {
-                number,
-                section: self.low(),
-                passes: self.mid(),
-            },
-        }
     }
 }
 

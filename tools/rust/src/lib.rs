@@ -31,12 +31,45 @@ pub struct Assembler {
 pub enum AssembleError {
     /// Number 10: the section of the reference.
     RefHasTooSmallSetSize(usize),
-    /// Every other refusal: of `assemble` and `settle` 8, 9, 11 or 12; of `write` 7, 8, 9, 12 or 16.
+    /// Numbers 8, 17 and 18: the section of the first reference to a mark that is nowhere placed, which of its marks that is, and
+    /// the mark.
+    Unplaced {
+        section: usize,
+        missing: Missing,
+        mark: MarkId,
+    },
+    /// Every other refusal: of `assemble` and `settle` 9, 11 or 12; of `write` 7, 9, 12 or 16.
     Refused {
         number: u32,
         section: usize,
         passes: u32,
     },
+}
+
+/// Which mark of a reference is missing. Where both ends of a delta are, it is the start.
+#[derive(Debug, Clone, Copy, PartialEq, Eq)]
+pub enum Missing {
+    /// Number 8: a direct reference's mark.
+    DirectMark,
+    /// Number 17.
+    DeltaStart,
+    /// Number 18.
+    DeltaEnd,
+}
+
+impl AssembleError {
+    /// The refusal's number.
+    pub fn number(&self) -> u32 {
+        match self {
+            Self::RefHasTooSmallSetSize(_) => 10,
+            Self::Unplaced { missing, .. } => match missing {
+                Missing::DirectMark => 8,
+                Missing::DeltaStart => 17,
+                Missing::DeltaEnd => 18,
+            },
+            Self::Refused { number, .. } => *number,
+        }
+    }
 }
 
 /// What settling answers: where the marks will be, how long the code will be, and the passes it took.
@@ -171,7 +204,7 @@ impl Assembler {
             match answer.number() {
                 0 => return Ok(MarkOffsets(table)),
                 7 if table.len() < MAX_MARKS => grow(&mut table, MAX_MARKS),
-                number => return Err(answer.error(number)),
+                _ => return Err(self.error(answer)),
             }
         }
     }
@@ -191,14 +224,14 @@ impl Assembler {
                     });
                 }
                 7 if table.len() < MAX_MARKS => grow(&mut table, MAX_MARKS),
-                number => return Err(answer.error(number)),
+                _ => return Err(self.error(answer)),
             }
         }
     }
 
     /// The second half: appends the code by these offsets, `settle`'s or any others in which each placed mark is at the sum
     /// of sizes, by them, before it. The shortest code is promised of `settle`'s alone. `result` is as it was if there is an
-    /// error: 7 (too few offsets), 8, 9, 16 or 10, 12. Takes about 130 KiB of stack. The original has no such method.
+    /// error: 7 (too few offsets), 8, 17 or 18, 9, 16 or 10, 12. Takes about 130 KiB of stack. The original has no such method.
     pub fn write(&self, result: &mut Vec<u8>, offsets: &MarkOffsets) -> Result<(), AssembleError> {
         let answer = self.append(result, |result, position| {
             calls::write(
@@ -212,7 +245,29 @@ impl Assembler {
         });
         match answer.number() {
             0 => Ok(()),
-            number => Err(answer.error(number)),
+            _ => Err(self.error(answer)),
+        }
+    }
+
+    /// A refusal of `assemble`, `settle` or `write`. The mark that a reference misses is read from its section: a direct reference
+    /// and a delta's start are its second word, a delta's end its third.
+    fn error(&self, answer: Answer) -> AssembleError {
+        let section = answer.low();
+        let unplaced = |missing, word: usize| AssembleError::Unplaced {
+            section,
+            missing,
+            mark: MarkId::new(self.words[3 * section + word]),
+        };
+        match answer.number() {
+            8 => unplaced(Missing::DirectMark, 1),
+            10 => AssembleError::RefHasTooSmallSetSize(section),
+            17 => unplaced(Missing::DeltaStart, 1),
+            18 => unplaced(Missing::DeltaEnd, 2),
+            number => AssembleError::Refused {
+                number,
+                section,
+                passes: answer.mid(),
+            },
         }
     }
 

@@ -97,6 +97,51 @@ fn lines_1_to_10() {
     assert_eq!(code(&[Mark(0), Op(0x5b), Mark(0)]), refused(9, 2, 0));
 }
 
+#[test]
+fn which_mark_is_missing() {
+    let unplaced = |section, missing, mark| {
+        Err(AssembleError::Unplaced {
+            section,
+            missing,
+            mark: MarkId::new(mark),
+        })
+    };
+    let direct = |mark| Direct(mark, None, true);
+    let delta = |start, end| Delta(start, end, None, true);
+    use Missing::*;
+    // A delta before a direct reference, and the other way round.
+    assert_eq!(
+        code(&[Mark(0), delta(5, 0), direct(6)]),
+        unplaced(1, DeltaStart, 5)
+    );
+    assert_eq!(
+        code(&[Mark(0), delta(0, 5), direct(6)]),
+        unplaced(1, DeltaEnd, 5)
+    );
+    assert_eq!(
+        code(&[Mark(0), direct(6), delta(0, 5)]),
+        unplaced(1, DirectMark, 6)
+    );
+    // Both ends, and one mark as both.
+    assert_eq!(code(&[Mark(0), delta(6, 5)]), unplaced(1, DeltaStart, 6));
+    assert_eq!(code(&[delta(7, 7), Mark(0)]), unplaced(0, DeltaStart, 7));
+    // A start that is placed behind the delta.
+    assert_eq!(code(&[delta(0, 5), Mark(0)]), unplaced(0, DeltaEnd, 5));
+    // Before 9.
+    let apart = [Mark(0), Op(0), Mark(0), delta(0, 1_048_575)];
+    assert_eq!(code(&apart), unplaced(3, DeltaEnd, 1_048_575));
+    for (calls, number) in [
+        (direct(1), 8),
+        (delta(1, 1), 17),
+        (delta(0, 1), 18),
+        (Direct(0, Some(RefSize::S1), false), 10),
+    ]
+    .map(|(call, number)| ([Data(256), Mark(0), call], number))
+    {
+        assert_eq!(code(&calls).unwrap_err().number(), number);
+    }
+}
+
 /// N pushed references to marks N down to 1, P data bytes, then the marks with a data byte between neighbours.
 fn line_11(n: u32, p: usize) -> Vec<Call> {
     let mut calls: Vec<Call> = (1..=n).rev().map(|mark| Direct(mark, None, true)).collect();
@@ -243,7 +288,27 @@ fn written_by_long_tables() {
         assert_eq!(write(&placed, &table(length, 1)), Ok(vec![0x5b, 0x60, 1]));
         assert_eq!(write(&placed, &table(length, 2)), refused(16, 1));
         let unplaced = [Op(0x5b), Mark(20_000), Direct(19_999, None, true)];
-        assert_eq!(write(&unplaced, &table(length, 1)), refused(8, 2));
+        let missing = |missing, mark| {
+            Err(AssembleError::Unplaced {
+                section: 2,
+                missing,
+                mark: MarkId::new(mark),
+            })
+        };
+        assert_eq!(
+            write(&unplaced, &table(length, 1)),
+            missing(Missing::DirectMark, 19_999)
+        );
+        let start = [Op(0x5b), Mark(20_000), Delta(19_998, 20_000, None, true)];
+        assert_eq!(
+            write(&start, &table(length, 1)),
+            missing(Missing::DeltaStart, 19_998)
+        );
+        let end = [Op(0x5b), Mark(20_000), Delta(20_000, 19_997, None, false)];
+        assert_eq!(
+            write(&end, &table(length, 1)),
+            missing(Missing::DeltaEnd, 19_997)
+        );
         let apart = [Op(0x5b), Mark(20_000), Op(0x5b), Mark(0), Mark(20_000)];
         assert_eq!(write(&apart, &table(length, 1)), refused(9, 4));
     }
@@ -258,10 +323,10 @@ fn slices_grow() {
         .collect();
     let mut asm = built(&references);
     let mut result = vec![1, 2, 3];
-    let unplaced = AssembleError::Refused {
-        number: 8,
+    let unplaced = AssembleError::Unplaced {
         section: 0,
-        passes: 0,
+        missing: Missing::DirectMark,
+        mark: MarkId::new(999_999),
     };
     assert_eq!(asm.assemble(&mut result, None), Err(unplaced));
     assert_eq!(result, [1, 2, 3]);
