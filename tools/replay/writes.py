@@ -133,7 +133,7 @@ def earlier(table):
     yield "18 before 9", [mark(0), op, mark(0), delta(0, 5, 8)], any_table(refused(18, 3))
     yield "17, a start", [mark(0), delta(5, 0, 8)], any_table(refused(17, 1))
     yield "18, an end", [mark(0), delta(0, 5, 8)], any_table(refused(18, 1))
-    yield "17, both ends", [mark(0), delta(5, 6, 1)], any_table(refused(17, 1))
+    yield "17, both ends", [mark(0), delta(5, 4, 1)], any_table(refused(17, 1))
     yield "17, one mark as both ends", [mark(0), delta(5, 5, 0)], any_table(refused(17, 1))
     yield "18, a start behind it", [delta(0, 5, 8), mark(0)], any_table(refused(18))
     yield "17 before a later 8", [mark(0), delta(5, 0, 8), direct(5, 8)], any_table(refused(17, 1))

@@ -1,6 +1,6 @@
 -- Document 02, request 3: the write as one definition, from a store, a lent table, a lent result and a position to the answer and the
--- result. 6 to 9, 16 or 10, and 12 are the tests of store and table (tables/specs/TableTests); then 13. The table is lent to read only.
--- Assumes nothing.
+-- result. 6 to 9 with 17 and 18, 16 or 10, and 12 are the tests of store and table (tables/specs/TableTests); then 13. The table is lent to
+-- read only. Assumes nothing.
 use Prim.Native.Nat.{ℕ}
 use mathlib.Core.Bool.{cond}
 use mathlib.Core.List.{List}

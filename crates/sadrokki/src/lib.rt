@@ -10,7 +10,7 @@
 //   number 0, accepted: a building call has mid = sections and low = stored bytes, so that its answer is the next state;
 //     `sadrokki_assemble`, `sadrokki_settle` and `sadrokki_write` have mid = passes and low = the code's length; `sadrokki_write_asm` has
 //     mid * 2^32 + low = the text's length; the others have low = their result.
-//   number 1 to 14, a refusal of document 01, and 16, of document 02's request 3: mid = passes, low = section.
+//   number 1 to 14, a refusal of document 01, and 16 to 18, of document 02's requests 3 and 5: mid = passes, low = section.
 //   number 255, an argument names nothing: mid = low = 0, and nothing changed.
 // An empty run of op bytes is accepted and answers its state, whatever number that has.
 // `sadrokki_lands`, `sadrokki_push_size`, `sadrokki_bytes_to_hold` and `sadrokki_leading_zeros` can't be refused and answer their result
