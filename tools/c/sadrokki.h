@@ -32,11 +32,12 @@
 #define SADROKKI_ZEROS(answer) ((answer) / 2)
 #define SADROKKI_LOOKED(answer) (((answer) + 1) / 2)
 #define SADROKKI_PUSHED 8
+
 #define SADROKKI_UNPLACED 8
 #define SADROKKI_START_UNPLACED 17
 #define SADROKKI_END_UNPLACED 18
 /* Of an answer with one of these numbers, and the words of its store: a section's second word is a direct reference's mark or a
- * delta's start, its third a delta's end. */
+ * delta's start, its third a delta's end. The answer is evaluated twice. */
 #define SADROKKI_MISSING(answer, words) ((words)[3 * (size_t)SADROKKI_LOW(answer) + (SADROKKI_NUMBER(answer) == SADROKKI_END_UNPLACED ? 2 : 1)])
 
 #ifdef __cplusplus
@@ -64,12 +65,12 @@ uint64_t sadrokki_push_data(uint64_t state, uint8_t *bytes, size_t bytes_len, ui
 uint64_t sadrokki_push_direct(uint64_t state, const uint8_t *bytes, size_t bytes_len, uint32_t *words, size_t words_len, uint32_t mark, uint32_t form);
 uint64_t sadrokki_push_delta(uint64_t state, const uint8_t *bytes, size_t bytes_len, uint32_t *words, size_t words_len, uint32_t start, uint32_t end, uint32_t form);
 
-/* The code into result from position on, the marks' offsets into table: entry m is mark m's. Refusals: 6 to 13, 17 and 18 (7: a
- * mark placed or named isn't below table_len), each leaving table all 0 and result as it was. */
+/* The code into result from position on, the marks' offsets into table: entry m is mark m's. Refusals: 6, 7 (a mark placed or
+ * named isn't below table_len), 8 (or 17, 18), 9 to 13, each leaving table all 0 and result as it was. */
 uint64_t sadrokki_assemble(uint64_t state, const uint8_t *bytes, size_t bytes_len, const uint32_t *words, size_t words_len, uint32_t *table, size_t table_len, uint8_t *result, size_t result_len, size_t position);
-/* The same in two calls. Settling is assembly without its code: refusals 6 to 12, 17 and 18, each leaving table all 0.
- * Accepted, table holds the offsets (0 for marks that aren't placed), and the answer's low half is the length that the code will
- * have. */
+/* The same in two calls. Settling is assembly without its code: refusals 6, 7, 8 (or 17, 18), 9 to 12, each leaving table
+ * all 0. Accepted, table holds the offsets (0 for marks that aren't placed), and the answer's low half is the length that the
+ * code will have. */
 uint64_t sadrokki_settle(uint64_t state, const uint8_t *bytes, size_t bytes_len, const uint32_t *words, size_t words_len, uint32_t *table, size_t table_len);
 /* The code into result from position on, by a table that is only read: settling's, or any in which each placed mark's entry is
  * the sum of sizes, by that table, of the sections before it. From settling's, the store being as it was, it is assemble's

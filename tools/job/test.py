@@ -122,6 +122,8 @@ def by_hand(program):
         ("both", top + top, b"refused 15 at 0\n"),
         ("op 5b", bytes(7) + b"\1" + step, b"code 5b\n"),
         ("8 at 0", bytes.fromhex("00000000 00000001 04 00000007 00000008"), b"refused 8 at 0\n"),
+        ("17 at 1", bytes.fromhex("00000000 00000002 01 00000000 00000000 28 00000007 00000000"), b"refused 17 at 1\n"),
+        ("18 at 1", bytes.fromhex("00000000 00000002 01 00000000 00000000 28 00000000 00000007"), b"refused 18 at 1\n"),
     ):
         check(what, ran([program], job), (0, text, b""))
     with open(os.devnull) as nothing:

@@ -69,7 +69,7 @@ def fields(kinds=(0, 1, 2, 3, 4, 5, *range(31, 46), 255)):
 
 
 def marks():
-    """Each field that is a mark, with each number: code or 8, 7, 3."""
+    """Each field that is a mark, with each number: code or 8, 17 or 18, 7, 3."""
     for m in (TABLE - 1, TABLE, MARK, MARK + 1, TOP):
         yield f"mark {m}", job(b"", op(0), mark(m))
         yield f"direct {m}", job(b"", op(0), direct(m, 8))

@@ -1,6 +1,6 @@
 #!/usr/bin/env python3
 """An independent model of `replay`. Reads a script on standard input, prints what replay must print.
-Written from docs/REPLAY.md, document 01 (modules 1 to 6, Replies), requests 1 to 4 of document 02 as docs/DECISIONS.md reads them, and
+Written from docs/REPLAY.md, document 01 (modules 1 to 6, Replies), requests 1 to 5 of document 02 as docs/DECISIONS.md reads them, and
 op.rs for the names; it shares nothing with the Rattle code. `job_text` is the model of `job`."""
 import copy, sys
 

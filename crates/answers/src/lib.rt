@@ -21,8 +21,8 @@ ghost use Rattle.listing.specs.Answer.{listedReply, listingReply, listingBuffer
 ghost use Rattle.numbers.specs.Numbers.{storeIn};
 ghost use Rattle.answers.specs.Numbers.{assembledNumber, listedNumber, AssembledPacks, ListedPacks};
 
-// Writes the code into the result from the position on, and the marks' offsets into the table. Refusals: 6 to 13, 17, 18, with the
-// table all 0 and the result unchanged.
+// Writes the code into the result from the position on, and the marks' offsets into the table. Refusals: 6, 7, 8 (or 17, 18), 9 to
+// 13, with the table all 0 and the result unchanged.
 pub fn assemble(
     state: u64,
     bytes: &[u8],
@@ -58,7 +58,8 @@ pub fn assemble(
     assembled_number(assembler::assemble(counts_in(state), bytes, words, table, result, position))
 }
 
-// Settles: the code's length and passes, and the marks' offsets into the table. Refusals: 6 to 12, 17, 18, with the table all 0.
+// Settles: the code's length and passes, and the marks' offsets into the table. Refusals: 6, 7, 8 (or 17, 18), 9 to 12, with the table
+// all 0.
 pub fn settle(state: u64, bytes: &[u8], words: &[u32], table: &mut [u32]) -> u64
     ensures reply { λ r. ⌜ r ≡ assembledNumber (settling wordsPerSection (length (now (table .entry)))
         (storeIn state (now (bytes .entry)) (now (words .entry))) .reply) ⌝ }
@@ -78,8 +79,8 @@ pub fn settle(state: u64, bytes: &[u8], words: &[u32], table: &mut [u32]) -> u64
     assembled_number(as_assembled(settling::settle(counts_in(state), bytes, words, table)))
 }
 
-// Writes the code into the result from the position on, by a table from anyone, which is only read. Refusals: 6 to 9, 17, 18,
-// 16 or 10, 12, 13, with nothing changed; passes are 0.
+// Writes the code into the result from the position on, by a table from anyone, which is only read. Refusals: 6, 7,
+// 8 (or 17, 18), 9, 16 or 10, 12, 13, with nothing changed; passes are 0.
 pub fn write(
     state: u64,
     bytes: &[u8],

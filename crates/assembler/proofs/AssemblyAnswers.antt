@@ -3,7 +3,7 @@ use Prim.Native.Nat.{ℕ}
 use native.Mathlib.Omega.{arith}
 use mathlib.Core.Path.{_≡_, refl, sym, ap, _∙_, subst}
 use mathlib.Core.Bool.{Bool, true, false, cond}
-use mathlib.Core.Logic.{_↔_, Iff·trans, inr}
+use mathlib.Core.Logic.{_↔_, inr}
 use mathlib.Core.List.{List}
 use lib.Dec.{eqb}
 use lib.ListN.{length}
@@ -12,7 +12,7 @@ use Rattle.units.specs.Reply.{Reply, accepted, refused}
 use Rattle.records.specs.Store.{Store}
 use Rattle.records.specs.Sections.{decode}
 use Rattle.layout.specs.Passes.{entry}
-use Rattle.layout.specs.Conditions.{Missing}
+use Rattle.layout.specs.Conditions.{Missing, directMark, deltaStart, deltaEnd}
 use Rattle.layout.specs.Answer as layout
 use Rattle.settling.specs.SettlingAnswers as settling
 use Rattle.settling.specs.SettlingAnswers.{SettlingSays, StoreMisses}
@@ -35,6 +35,13 @@ ofSettling (settling.noLayout r) = noLayout r
 answerOf : Reply layout.Laid → AssemblyAnswer
 answerOf (accepted l) = written (l .length) (l .passes)
 answerOf (refused number i k) = cond (eqb number 13) (resultFull k) (ofSettling (refusalAt number i k))
+
+-- 8, 17 and 18 come back from the number and the section alone
+missing-back : (x : Missing) (i k : ℕ) → answerOf (refused (layout.missingNumber x) i k) ≡ noLayout (layout.unplaced x i)
+unfolding answerOf
+missing-back directMark i k = refl
+missing-back deltaStart i k = refl
+missing-back deltaEnd i k = refl
 
 -- it comes back
 answer-back : (a : AssemblyAnswer) → answerOf (assemblyReply a) ≡ a
@@ -102,8 +109,16 @@ module _ (w : ℕ) (st : Store) (n : ℕ) (result : List ℕ) (position : ℕ) w
   )
 
   -- 8, 17 and 18 as of settling
-  pub assembly-missing : (x : Missing) (i : ℕ) → (assembly w st n result position .reply ≡ refused (layout.missingNumber x) i 0) ↔ StoreMisses w st n i x
-  assembly-missing x i = Iff·trans (assembly-law (noLayout (layout.unplaced x i))) (misses-law w n st x i)
+  pub assembly-missing : (x : Missing) (i k : ℕ) → (assembly w st n result position .reply ≡ refused (layout.missingNumber x) i k) ↔ ((k ≡ 0) × StoreMisses w st n i x)
+  unfolding answerOf
+  assembly-missing x i k = (there, λ (z, m). rw z (says-replied (noLayout (layout.unplaced x i)) (misses-law w n st x i .1 m)))
+    where
+      there : assembly w st n result position .reply ≡ refused (layout.missingNumber x) i k → (k ≡ 0) × StoreMisses w st n i x
+      there h =
+          let same : assemblyReply (said .0) ≡ refused (layout.missingNumber x) i k = sym (says-replied (said .0) (said .1)) ∙ h in
+          let is : said .0 ≡ noLayout (layout.unplaced x i) = sym (answer-back (said .0)) ∙ ap answerOf same ∙ missing-back x i k in
+          let zero : refused (layout.missingNumber x) i 0 ≡ refused (layout.missingNumber x) i k = sym (ap assemblyReply is) ∙ same in
+          (cc, misses-law w n st x i .0 (subst Said is (said .1)))
 
   -- 13 is answered exactly when the code or the position passes the result; its section is 0
   pub full-exactly : (i k : ℕ) → (assembly w st n result position .reply ≡ refused number.resultFull i k) ↔ ((i ≡ 0) × CodePasses w st n (length result) position k)

@@ -4,7 +4,7 @@ use Prim.Native.Nat.{ℕ, _+_, _≤_, _<_}
 use native.Mathlib.Omega.{arith}
 use mathlib.Core.Path.{_≡_, refl, sym, ap, _∙_, subst}
 use mathlib.Core.Bool.{Bool, true, false, cond}
-use mathlib.Core.Logic.{_↔_, Iff·trans, inr}
+use mathlib.Core.Logic.{_↔_, inr}
 use mathlib.Core.List.{List}
 use lib.Dec.{eqb}
 use lib.ListN.{length}
@@ -205,10 +205,6 @@ module _ (w : ℕ) (st : Store) (table result : List ℕ) (position : ℕ) where
     says-replied a,
   )
 
-  -- 8, 17 and 18 as of settling, by a table of this length
-  pub write-missing : (x : Missing) (i : ℕ) → (writeBy w st table result position .reply ≡ refused (missingNumber x) i 0) ↔ StoreMisses w st (length table) i x
-  write-missing x i = Iff·trans (write-law (refuses (tests.unplaced x i))) (misses-law w (length table) st x i)
-
   -- 13 is answered exactly when the tests accept the table and the code or the position passes the result; its section and passes are 0
   pub write-full-exactly : (i k : ℕ) → (writeBy w st table result position .reply ≡ refused number.resultFull i k)
       ↔ ((i ≡ 0) × (k ≡ 0) × WriteCodePasses w st table (length result) position)
@@ -242,6 +238,17 @@ module _ (w : ℕ) (st : Store) (table result : List ℕ) (position : ℕ) where
       none (damaged i) = refl
       none (refuses r) = test-numbers r .1
       none resultFull = refl
+
+  -- 8, 17 and 18 as of settling, by a table of this length
+  pub write-missing : (x : Missing) (i k : ℕ) → (writeBy w st table result position .reply ≡ refused (missingNumber x) i k) ↔ ((k ≡ 0) × StoreMisses w st (length table) i x)
+  write-missing x i k =
+      let law = write-law (refuses (tests.unplaced x i)) in
+      let misses = misses-law w (length table) st x i in (
+        λ h.
+            let z : k ≡ 0 = write-passes .1 (missingNumber x) i k h in
+            (z, misses .0 (law .0 (h ∙ ap (refused (missingNumber x) i) z))),
+        λ (z, m). rw z (law .1 (misses .1 m)),
+      )
 
   -- ---- what it leaves, and what holds of the written code
 

@@ -42,8 +42,8 @@ AnswerSays w st n room position (noLayout r) = SettlingSays w st n (settling.noL
 -- 13: 'the code passes the result, or the position does'
 AnswerSays w st n room position (resultFull k) = (size : ℕ) × SettlingSays w st n (settling.laidOut size k) × (room < position + size)
 
--- 13 once more, by the code itself: 6 to 12, 17 and 18 don't hold, and 'the code passes the result, or the position does'. It is answered exactly
--- then (`full-exactly` of proofs/AssemblyAnswers).
+-- 13 once more, by the code itself: 6 to 12, 17 and 18 don't hold, and 'the code passes the result, or the position does'. It is answered
+-- exactly then (`full-exactly` of proofs/AssemblyAnswers).
 abbrev pub CodePasses : ℕ → Store → ℕ → ℕ → ℕ → ℕ → Type 0
 CodePasses w st n room position passes =
     (table : List ℕ) × (code : List ℕ) × (code ≡ codeOf (entry table) (decode w st)) × Undamaged w st

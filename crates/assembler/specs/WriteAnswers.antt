@@ -1,5 +1,5 @@
--- Document 02, request 3: the condition of each answer of the write, 6 to 10, 12, 13 and 16. 'Each number comes in its stated condition and
--- in no other': that it is given exactly then is `write-law` of proofs/WriteLaws. Assumes nothing.
+-- Document 02, requests 3 and 5: the condition of each answer of the write, 6 to 10, 12, 13 and 16 to 18. 'Each number comes in its stated
+-- condition and in no other': that it is given exactly then is `write-law` of proofs/WriteLaws. Assumes nothing.
 use Prim.Native.Nat.{ℕ, _+_, _≤_, _<_}
 use mathlib.Core.Path.{_≡_}
 use mathlib.Core.Logic.{_⊎_}

@@ -27,8 +27,8 @@ pub enum Assembled {
 }
 
 // Settles the store's sections and writes their code into the result from the position on. Refusals: 6 damaged, 7 short table,
-// 8 a direct reference's mark unplaced, 17 a delta's start, 18 its end, 9 placed apart, 10 too narrow, 11 unsettled, 12 backward, 13 result
-// full.
+// 8 a direct reference's mark unplaced or 17 a delta's start or 18 its end, whichever section comes first, 9 placed apart, 10 too narrow,
+// 11 unsettled, 12 backward, 13 result full.
 pub fn assemble(
     store: Assembler,
     bytes: &[u8],
@@ -78,8 +78,8 @@ pub fn assemble(
 }
 
 // Writes a store's code into the result from the position on, by a table that may come from anyone and is only read. Refusals: 6 damaged,
-// 7 short table, 8 a direct reference's mark unplaced, 17 a delta's start, 18 its end, 9 placed apart, 16 an entry that differs or 10 too
-// narrow, 12 backward, 13 result full, with nothing changed; passes are 0 in every answer.
+// 7 short table, 8 a direct reference's mark unplaced or 17 a delta's start or 18 its end, whichever section comes first, 9 placed apart,
+// 16 an entry that differs or 10 too narrow, 12 backward, 13 result full, with nothing changed; passes are 0 in every answer.
 pub fn write(
     store: Assembler,
     bytes: &[u8],

@@ -1,5 +1,5 @@
--- Document 01's line 11 as replies: no section of it has a 7, 8, 9 or 12, for any N, so up to 1,022 references the reply is a length in
--- N + 2 passes, and for 1,023 it is number 11. Assumes nothing.
+-- Document 01's line 11 as replies: no section of it has a 7, 8, 17, 18, 9 or 12, for any N, so up to 1,022 references the reply is a length
+-- in N + 2 passes, and for 1,023 it is number 11. Assumes nothing.
 use Prim.Native.Nat.{ℕ, zero, suc, _+_, _*_, _≤_, _<_}
 use native.Mathlib.Omega.{arith}
 use mathlib.Core.Path.{_≡_, refl, _∙_, ap, subst}
@@ -66,7 +66,7 @@ sections-plain n i = refs-plain (suc n) (end n) (suc n) i i (bytes (filler n) �
     after zero e l = tt
     after (suc j) e l = marks-plain (suc n) (end n) n j i (omega arith) (omega arith) (omega arith)
 
--- ---- no 7, no delta, no 8
+-- ---- no 7, no delta, no unplaced mark
 
 module _ (k c i : ℕ) where
   -- a reference names no mark with a property that none of 1 to k has
@@ -152,7 +152,7 @@ line-11-plain n =
       together = line-together n;
     }
 
--- so neither 7, 8 nor 9
+-- so neither 7, 8, 17, 18 nor 9
 line-sound : (n : ℕ) → Sound (suc (suc n)) (line11 n)
 line-sound n = let p = line-11-plain n in (p .inTable, p .marksPlaced, p .together)
 

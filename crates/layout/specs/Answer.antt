@@ -16,10 +16,11 @@ use Rattle.layout.specs.Conditions.{Missing, directMark, deltaStart, del
 
 -- why sections have no layout: 7 to 12, 17, 18
 pub data LayoutRefusal : Type 0 where
-  -- 7 and 9: the section
+  -- 7: the section
   shortTable : ℕ → LayoutRefusal
   -- 8, 17 or 18: the mark that the section misses, and the section
   unplaced : Missing → ℕ → LayoutRefusal
+  -- 9: the section
   placedApart : ℕ → LayoutRefusal
   -- 10 and 12: the section, the passes made
   tooNarrow : ℕ → ℕ → LayoutRefusal

@@ -33,7 +33,7 @@ Names ss i m = (i < length ss) × (r : AsmReference) × (sectionAt ss i ≡ refe
 abbrev pub NeverPlaced : List Section → ℕ → Type 0
 NeverPlaced ss m = (j : ℕ) → Places ss j m → ⊥
 
--- section i is a reference of this kind
+-- section i is a reference to this: a mark, or the two of a delta
 abbrev pub RefersBy : List Section → ℕ → MarkReference → Type 0
 RefersBy ss i x = (r : AsmReference) × (sectionAt ss i ≡ reference r) × (r .«mark_ref» ≡ x)
 
@@ -74,7 +74,7 @@ pub record ConditionLaws (ss : List Section) : Type 0 where
   -- 7: 'a mark placed or named is not below the table's length', n
   pub short-iff : (n i : ℕ) → i < length ss → (shortAt n ss i ≡ true) ↔ ((m : ℕ) × (Places ss i m ⊎ Names ss i m) × (n ≤ m))
   -- 8, 17 and 18: 'a named mark is never placed'
-  pub unplaced-iff : (i : ℕ) → i < length ss → (unplacedAt ss i ≡ true) ↔ ((m : ℕ) × Names ss i m × ((j : ℕ) → Places ss j m → ⊥))
+  pub unplaced-iff : (i : ℕ) → i < length ss → (unplacedAt ss i ≡ true) ↔ ((m : ℕ) × Names ss i m × NeverPlaced ss m)
   -- which of the three it is
   pub missing-iff : (x : Missing) (i : ℕ) → i < length ss → ((unplacedAt ss i ≡ true) × (missingAt ss i ≡ x)) ↔ Misses ss i x
   -- and that it is the first

@@ -1,5 +1,5 @@
 -- Document 01, module 3 and 'Replies': the conditions for 7, 8 (and, of document 02, request 5, for 17 and 18), 9 and 12 by the first
--- section that .., those for 10, 11 and settled by the pass that .., and the premise of demand 3. Readings 22 to 25 and 79 of
+-- section that .., those for 10, 11 and settled by the pass that .., and the premise of demand 3. Readings 22 to 25, 79 and 80 of
 -- docs/DECISIONS.md. Assumes nothing.
 use Prim.Native.Nat.{ℕ, zero, suc, _+_, _*_, _^_, _≤_, _<_}
 use mathlib.Core.Path.{_≡_}

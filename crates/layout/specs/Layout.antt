@@ -15,7 +15,7 @@ use Rattle.units.specs.declared.AsmReference.{AsmReference}
 use Rattle.records.specs.Sections.{Section, mark, ops, bytes, reference}
 
 -- 'A layout is any offset for each placed mark and any width for each section.' (Other marks have one too;
--- it counts only where a reference names an unplaced mark, which number 8 refuses.)
+-- it counts only where a reference names an unplaced mark, which 8, 17 or 18 refuses.)
 pub record Layout : Type 0 where
   pub offset : ℕ → ℕ
   pub widths : List ℕ

@@ -177,7 +177,7 @@ module _
     small : need ss < 4294967296
     small = sums-small a st undamaged decoded
 
-    -- 7, 8 and 9 don't hold
+    -- 7, 8, 17, 18 and 9 don't hold
     sound : layout.Sound lent ss
     sound = (given .inTable, given .marksPlaced, given .together)
 

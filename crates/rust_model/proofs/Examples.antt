@@ -88,7 +88,7 @@ fits-law build bs words (c ∷ cs) a e =
           (now-law bs words a′ (both .0), fits-law build bs words cs a′ (both .1)),
     )
 
--- the list of sections has none of the conditions for 7, 8 and 9
+-- the list of sections has none of the conditions for 7, 8, 17, 18 and 9
 assembles : (a : Assembler) (lent : ℕ) → firstUnplaced (sectionsOf a) ≡ length (sectionsOf a) → firstApart (sectionsOf a) ≡ length (sectionsOf a)
     → firstShort lent (sectionsOf a) ≡ length (sectionsOf a) → Assembles a lent
 unfolding firstUnplaced firstApart firstShort

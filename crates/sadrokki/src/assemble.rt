@@ -15,8 +15,8 @@ ghost use Rattle.listing.specs.Answer.{listingReply, listingBuffer};
 ghost use Rattle.numbers.specs.Numbers.{storeIn};
 ghost use Rattle.answers.specs.Numbers.{assembledNumber, listedNumber};
 
-// Writes the code into the result from the position on, and the marks' offsets into the table. Refusals: 6 to 13, 17, 18, with the
-// table all 0 and the result unchanged.
+// Writes the code into the result from the position on, and the marks' offsets into the table. Refusals: 6, 7, 8 (or 17, 18), 9 to
+// 13, with the table all 0 and the result unchanged.
 #[no_mangle]
 pub extern "C" fn sadrokki_assemble(
     state: u64,
@@ -53,7 +53,8 @@ pub extern "C" fn sadrokki_assemble(
     answers::assemble(state, bytes, words, table, result, position)
 }
 
-// Settles: the code's length and passes, and the marks' offsets into the table. Refusals: 6 to 12, 17, 18, with the table all 0.
+// Settles: the code's length and passes, and the marks' offsets into the table. Refusals: 6, 7, 8 (or 17, 18), 9 to 12, with the table
+// all 0.
 #[no_mangle]
 pub extern "C" fn sadrokki_settle(state: u64, bytes: &[u8], words: &[u32], table: &mut [u32]) -> u64
     ensures reply { λ r. ⌜ r ≡ assembledNumber (settling wordsPerSection (length (now (table .entry)))
@@ -74,8 +75,8 @@ pub extern "C" fn sadrokki_settle(state: u64, bytes: &[u8], words: &[u32], table
     answers::settle(state, bytes, words, table)
 }
 
-// Writes the code into the result from the position on, by a table from anyone, which is only read. Refusals: 6 to 9, 17, 18,
-// 16 or 10, 12, 13, with nothing changed; passes are 0.
+// Writes the code into the result from the position on, by a table from anyone, which is only read. Refusals: 6, 7,
+// 8 (or 17, 18), 9, 16 or 10, 12, 13, with nothing changed; passes are 0.
 #[no_mangle]
 pub extern "C" fn sadrokki_write(
     state: u64,

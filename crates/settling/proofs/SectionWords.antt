@@ -108,7 +108,7 @@ module _ {x : StoredSection} where
   named-words test (direct-words f s p g) = rw f (simp or-false)
   named-words test (delta-words l s p g) = rw (le-leb directKind (x .kind) (omega arith), lt-ltb directKind (x .kind) l)
 
-  -- 8
+  -- 8, 17 or 18
   pub unplaced-words : (table : List ℕ) {s : Section} → Words x s → unplacedWords table x ≡ namesSome (λ m. eqb (entry table m) 0) s
   unfolding unplacedWords
   unplaced-words table w = named-words (λ m. eqb (entry table m) 0) w

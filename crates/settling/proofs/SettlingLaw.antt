@@ -2,7 +2,7 @@
 use Prim.Native.Nat.{ℕ}
 use mathlib.Core.Path.{_≡_, refl, sym, ap, _∙_, subst}
 use mathlib.Core.Bool.{false, cond}
-use mathlib.Core.Logic.{_↔_, Iff·trans}
+use mathlib.Core.Logic.{_↔_}
 use lib.Dec.{eqb}
 use Rattle.units.specs.Replies.{tooNarrow}
 use Rattle.units.specs.Reply.{Reply, accepted, refused}
@@ -48,6 +48,12 @@ refusal-back (layout.placedApart i) = (refl, refl)
 refusal-back (layout.tooNarrow i k) = (refl, refl)
 refusal-back layout.unsettled = (refl, refl)
 refusal-back (layout.backward i k) = (refl, refl)
+
+-- 8, 17 and 18 come back from the number and the section alone
+pub missing-back : (x : Missing) (i k : ℕ) → refusalAt (layout.missingNumber x) i k ≡ noLayout (layout.unplaced x i)
+missing-back directMark i k = refl
+missing-back deltaStart i k = refl
+missing-back deltaEnd i k = refl
 
 -- the answer that a reply stands for
 answerOf : Reply layout.Laid → SettlingAnswer
@@ -114,9 +120,17 @@ module _ (w n : ℕ) (st : Store) where
       let first = condition-laws (decode w st) .first-missing-iff x i in
       (λ (u, says). (u, says .0, first .0 (says .1, says .2)), λ (u, short, h). let q = first .1 h in (u, (short, q .0, q .1)))
 
-  -- they are answered exactly then
-  pub missing-exactly : (x : Missing) (i : ℕ) → (settling w n st .reply ≡ refused (layout.missingNumber x) i 0) ↔ StoreMisses w st n i x
-  missing-exactly x i = Iff·trans (settling-law (noLayout (layout.unplaced x i))) (misses-law x i)
+  -- they are answered exactly then, with no pass
+  pub missing-exactly : (x : Missing) (i k : ℕ) → (settling w n st .reply ≡ refused (layout.missingNumber x) i k) ↔ ((k ≡ 0) × StoreMisses w st n i x)
+  unfolding answerOf
+  missing-exactly x i k = (there, λ (z, m). rw z (says-replied (noLayout (layout.unplaced x i)) (misses-law x i .1 m)))
+    where
+      there : settling w n st .reply ≡ refused (layout.missingNumber x) i k → (k ≡ 0) × StoreMisses w st n i x
+      there h =
+          let same : settlingReply (settling-said .0) ≡ refused (layout.missingNumber x) i k = sym (says-replied (settling-said .0) (settling-said .1)) ∙ h in
+          let is : settling-said .0 ≡ noLayout (layout.unplaced x i) = sym (answer-back (settling-said .0)) ∙ ap answerOf same ∙ missing-back x i k in
+          let zero : refused (layout.missingNumber x) i 0 ≡ refused (layout.missingNumber x) i k = sym (ap settlingReply is) ∙ same in
+          (cc, misses-law x i .0 (subst (SettlingSays w st n) is (settling-said .1)))
 
   -- laid out: the passes' table, length and count
   pub laid-settled : (laid : layout.Laid) → settling w n st .reply ≡ accepted laid

@@ -1,5 +1,5 @@
--- Document 01, modules 3 and 4: settling over a store and a lent table. 6 first, then 7 to 12, 17 and 18 over the decoded
--- sections. Assumes nothing.
+-- Document 01, modules 3 and 4: settling over a store and a lent table. 6 first, then 7 to 12, 17 and 18 in 8's place, over
+-- the decoded sections. Assumes nothing.
 use Prim.Native.Nat.{ℕ}
 use mathlib.Core.List.{List}
 use lib.ListN.{replicate}

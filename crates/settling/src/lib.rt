@@ -41,8 +41,8 @@ pub enum Settled {
     Refused(Refusal),
 }
 
-// Settling over a store and a lent table, whatever they hold. Refusals: 6 damaged, 7 short table, 8 a direct reference's mark unplaced, 17 a
-// delta's start, 18 its end, 9 placed apart, 10 too narrow, 11 unsettled, 12 backward.
+// Settling over a store and a lent table, whatever they hold. Refusals: 6 damaged, 7 short table, 8 a direct reference's mark unplaced or
+// 17 a delta's start or 18 its end, whichever section comes first, 9 placed apart, 10 too narrow, 11 unsettled, 12 backward.
 pub fn settle(store: Assembler, bytes: &[u8], words: &[u32], table: &mut [u32]) -> Settled
     ensures reply { λ r.
         ⌜ settledReply r

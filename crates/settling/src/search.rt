@@ -91,7 +91,7 @@ pub(crate) fn first_unplaced(store: Assembler, bytes: &[u8], words: &[u32], tabl
     i
 }
 
-// Which of the three, of the section that the search found: by its kind and, of a delta, by whether its start is placed. `tables` asks too.
+// 8, 17 or 18 for the section that the search found: by its kind and, of a delta, by whether its start is placed. `tables` calls it too.
 pub fn missing_refusal(section: StoredSection, start_placed: bool, at: u32) -> Refusal
     ensures { λ r. ⌜ r ≡ missingRefusal (missingWords «start_placed» section) at ⌝ }
 {

@@ -1,4 +1,4 @@
-// The lent table: all 0, the table of first placings that 8 and 9 read, and the start table.
+// The lent table: all 0, the table of first placings that 8, 17, 18 and 9 read, and the start table.
 use crate::search::is_short;
 use crate::section::least_size;
 use crate::section::section_words;

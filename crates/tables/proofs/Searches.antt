@@ -1,5 +1,5 @@
--- The searches for 8 and 9 by a map of placed marks. 8: in the map of all sections are the marks that are placed. 9: a mark that is in the
--- map of those placed before the last section with bytes has these bytes between its placings. Assumes nothing.
+-- The searches for 8, 17 or 18 and for 9 by a map of placed marks. The first: in the map of all sections are the marks that are placed. 9: a
+-- mark that is in the map of those placed before the last section with bytes has these bytes between its placings. Assumes nothing.
 use Prim.Native.Nat.{ℕ, _+_, _*_, _/_, _%_, _≤_, _<_}
 use native.Mathlib.Nat.{div-eq-of-lt, eq-or-lt-of-le}
 use native.Mathlib.Omega.{arith}

@@ -54,7 +54,7 @@ firstWrong table ss = first ss (wrongAt table ss)
 -- why a table isn't accepted for a list of sections: the section
 pub data TableRefusal : Type 0 where
   shortTable : ℕ → TableRefusal
-  -- 8, 17 or 18: the mark that the section misses as well
+  -- 8, 17 or 18: which mark the section misses, and the section
   unplaced : Missing → ℕ → TableRefusal
   placedApart : ℕ → TableRefusal
   differs : ℕ → TableRefusal

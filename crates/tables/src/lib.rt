@@ -1,5 +1,5 @@
 // Document 02, request 3: the tests of a store and of an offset table 'from anyone', all but the room for the code. The table is lent to
-// read only, so that what 8 and 9 need to remember is a map of one bit for each mark, made here: of 2,048 bytes where the table has at most
+// read only, so that what 8, 17, 18 and 9 need to remember is a map of one bit for each mark, made here: of 2,048 bytes where the table has at most
 // 16,384 entries, else of 131,072, enough for every mark number.
 mod compare;
 mod map;
@@ -39,8 +39,8 @@ ghost use Rattle.tables.specs.MarkMap.{Covers, Marked};
 const SMALL: usize = 16384;
 
 // Whether a store's code can be written by a table, whatever they hold: its length in all, with 0 passes. Refusals: 6 damaged,
-// 7 short table, 8 a direct reference's mark unplaced, 17 a delta's start, 18 its end, 9 placed apart, 16 an entry that differs or 10 too
-// narrow, 12 backward. Nothing is changed.
+// 7 short table, 8 a direct reference's mark unplaced or 17 a delta's start or 18 its end, whichever section comes first, 9 placed apart,
+// 16 an entry that differs or 10 too narrow, 12 backward. Nothing is changed.
 pub fn check_table(store: Assembler, bytes: &[u8], words: &[u32], table: &[u32]) -> Settled
     ensures reply { λ r.
         ⌜ settledReply r

@@ -51,9 +51,9 @@ pub enum AssembleError {
 pub enum Missing {
     /// Number 8: a direct reference's mark.
     DirectMark,
-    /// Number 17.
+    /// Number 17: a delta's start, be its end placed or not.
     DeltaStart,
-    /// Number 18.
+    /// Number 18: a delta's end, its start being placed.
     DeltaEnd,
 }
 
@@ -249,8 +249,8 @@ impl Assembler {
         }
     }
 
-    /// A refusal of `assemble`, `settle` or `write`. The mark that a reference misses is read from its section: a direct reference
-    /// and a delta's start are its second word, a delta's end its third.
+    /// A refusal of `assemble`, `settle` or `write`. The mark that a reference misses is read from its section: a direct
+    /// reference's mark and a delta's start are its second word, a delta's end its third.
     fn error(&self, answer: Answer) -> AssembleError {
         let section = answer.low();
         let unplaced = |missing, word: usize| AssembleError::Unplaced {

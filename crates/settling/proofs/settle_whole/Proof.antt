@@ -1,6 +1,5 @@
--- 7 and 9 by what the walk of the placings found, 8, 17 or 18 by the search, then the settling. The table is 0 again before they are
--- answered.
--- Assumes nothing.
+-- 7 and 9 by what the walk of the placings found, 8, 17 or 18 by the search, then the settling. Before they are answered the table is 0
+-- again. Assumes nothing.
 use Prim.Native.Nat.{ℕ, _<_}
 use native.Mathlib.Omega.{arith}
 use mathlib.Core.Path.{_≡_, sym, ap, _∙_, subst}
@@ -34,7 +33,7 @@ long s = length (now (s .args .table))
 count : (s : tie.Start) → length (sections s) ≡ s .args .store .sections
 count s = decode-count wordsPerSection (storeOf (s .args .store) (now (s .args .bytes)) (now (s .args .words)))
 
--- seen from the walk of the placings; that walk seen from the test of 7, and from the search for 8
+-- seen from the walk of the placings; that walk seen from the test of 7, and from the search for 8, 17 or 18
 abbrev entry : tie.After-place → tie.Start
 entry c = c .before .before .before .before .before
 
@@ -71,7 +70,7 @@ never-unplaced c =
     let found = c .before .before in
     none-found (sections (start found)) _ _ _ (found .first-unplaced .ensures) (count (start found)) (c .if2 .left)
 
--- the search for 8, seen from the test of 9
+-- that search, seen from the test of 9
 abbrev searched : tie.After-struct-known3 → tie.After-first-unplaced
 searched c = c .before .before .before
 

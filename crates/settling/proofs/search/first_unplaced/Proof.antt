@@ -36,7 +36,7 @@ at-loop c = c .before .before .before
 here : (c : tie.After-section-words Inv-loop μ-loop) → Turn (sections (at-loop c)) (at-loop c .loop .i) (c .section-words .result)
 here c = turn _ _ _ (entry (at-loop c) .pre .0 .whole) _ _ (c .before .if2 .taken) (c .section-words .ensures)
 
--- the code's test is 8's
+-- the code's test is that of 8, 17 and 18
 tested : (c : tie.After-is-unplaced Inv-loop μ-loop) → c .is-unplaced .result ≡ unplacedAt (sections (at-loop (c .before))) (at-loop (c .before) .loop .i)
 tested c =
     let s = entry (at-loop (c .before)) in

@@ -47,7 +47,7 @@ marks c =
     let start = entry (at-loop c) in
     turn-covered _ _ _ _ (now (start .args .map)) (start .pre .0) (start .pre .1 .0) _ _ (c .before .if2 .taken) (c .section-words .ensures)
 
--- the code's test is 8's
+-- the code's test is that of 8, 17 and 18
 tested : (c : tie.After-is-unplaced Inv-loop μ-loop) → c .is-unplaced .result ≡ unplacedAt (sections (entry (at-loop (c .before)))) (at-loop (c .before) .loop .i)
 tested c =
     let read = c .before in
