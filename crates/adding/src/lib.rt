@@ -1,5 +1,7 @@
 // Document 01, module 2: what every building call comes to, by a state's number: 6, 4 and 5 are judged for the whole call, in this
 // order, and only then is anything written. A run of op bytes (document 02, request 1) is judged byte by byte.
+#![tactic(auto)]
+
 ghost use Rattle.std.specs.Prelude.{◌≡◌, ◌+◌, ◌*◌, ◌-◌, ◌^◌, ◌≤◌, ◌<◌, length, set};
 ghost use Rattle.records.specs.Record.{stored_section};
 ghost use Rattle.records.specs.Store.{words_per_section};

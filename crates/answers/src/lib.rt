@@ -1,4 +1,6 @@
 // Settling, the write, assembly and the listing by a state's number, each answered by one number.
+#![tactic(auto)]
+
 ghost use Rattle.std.specs.Prelude.{◌≡◌, length};
 ghost use Rattle.records.specs.Store.{words_per_section};
 ghost use Rattle.settling.specs.Settle.{settling, settled_reply};

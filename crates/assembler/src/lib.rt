@@ -1,5 +1,7 @@
 // Document 01, modules 3 and 4: assembly. Settling, then the code into the lent result from a position on. Document 02, request 3: the write
 // by a table from anyone.
+#![tactic(auto)]
+
 mod emission;
 
 ghost use Rattle.std.specs.Prelude.{◌≡◌, length};

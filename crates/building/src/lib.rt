@@ -1,6 +1,8 @@
 // Document 01, module 2: the building calls by number. Each takes the state's number and is lent the byte slice and the slice of words.
 // It answers the next state, or a refusal with nothing changed. A call judges its own numbers (1, 2, 3), tries the short way, and has
 // every other case judged by `adding` (6, 4, 5; of a run of op bytes byte by byte).
+#![tactic(auto)]
+
 mod bytes;
 mod section;
 

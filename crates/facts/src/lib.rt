@@ -1,5 +1,7 @@
 // The small calls, by number: landing, the opcodes, the sizes of references by their form, and the scan for the first nonzero byte. Every
 // function takes every argument.
+#![tactic(auto)]
+
 ghost use Rattle.std.specs.Prelude.{◌≡◌, ◌+◌, ◌/◌};
 ghost use Rattle.units.specs.Numbers.{held_bytes};
 ghost use Rattle.evm.specs.Landing.{landing_at};

@@ -1,5 +1,7 @@
 // Document 02, request 2: the first half of a job, from its bytes to the store that its steps build. `build_job` is the one public
 // function.
+#![tactic(auto)]
+
 mod read;
 mod run;
 mod validate;

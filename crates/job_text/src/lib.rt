@@ -1,5 +1,7 @@
 // Document 02, request 2: the text that is printed for a job, on slices as long as the request says. Theorems, in proofs/: when a job is
 // 15, which numbers it can answer, and that the text depends on the job alone.
+#![tactic(auto)]
+
 ghost use Rattle.std.specs.Prelude.{◌≡◌, length};
 ghost use Rattle.records.specs.Store.{words_per_section};
 ghost use Rattle.job_steps.specs.JobFormat.{step_count};

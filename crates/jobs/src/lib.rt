@@ -1,5 +1,7 @@
 // Document 02, request 2: a job, from its bytes to the text that is printed for it, on lent slices. `run_job` is the one public function.
 // What a job is, and its steps, stand in `job_steps`.
+#![tactic(auto)]
+
 mod text;
 
 ghost use Rattle.std.specs.Prelude.{◌≡◌, ◌≤◌, ltb, length};

@@ -1,6 +1,8 @@
 // Document 01, module 5: the lines of display.rs, each put into a slice from a place on: marks, data, references. Those of an Ops section
 // are in ops.rt. Each answers the place after its line, as far as a usize goes; what a slice doesn't hold is counted alone. Beside them
 // two writers of text.rt are public: bytes in hex and a number in decimal, over a part of a lent text.
+#![tactic(auto)]
+
 mod ops;
 mod text;
 

@@ -1,4 +1,6 @@
 // Document 01, module 5: the listing of a store (display.rs), `write_asm`. The lines themselves are put by `lines`.
+#![tactic(auto)]
+
 mod sections;
 mod sink;
 

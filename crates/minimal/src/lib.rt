@@ -1,5 +1,7 @@
 // Document 01, module 2: the minimal pushes by number: PUSH0 for 0, else the least PUSH1 to PUSH32 with its bytes, highest first.
 // Each answers the next state, or a refusal with nothing changed.
+#![tactic(auto)]
+
 ghost use Rattle.std.specs.Prelude.{◌≡◌, ◌∷◌, ◌+◌, ◌-◌, ◌≤◌, length, take, drop, true};
 ghost use Rattle.units.specs.Numbers.{number, big_endian};
 ghost use Rattle.evm.specs.Opcodes.{push_op};

@@ -1,4 +1,6 @@
 // How counts, answers and forms are one number each. Every function is total: it takes any number.
+#![tactic(auto)]
+
 mod form;
 
 ghost use Rattle.std.specs.Prelude.{◌≡◌};

@@ -1,5 +1,7 @@
 // Document 01, module 5: the names of op.rs for every byte, a function for each of its groups. The texts are constants (text.rt): a
 // byte string in an arm is a reference to be read, and the proof of sixteen such arms takes four times as long.
+#![tactic(auto)]
+
 ghost use Rattle.std.specs.Prelude.{◌≡◌, ◌≤◌, ◌<◌};
 ghost use Rattle.opcodes.specs.Names.{op_name, padded};
 

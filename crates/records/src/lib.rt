@@ -1,5 +1,7 @@
 // Document 01, module 2: the store's two counts and their limits, one section read from its words, put into words or written, and the
 // tests for number 6. Knows nothing of offset tables or passes.
+#![tactic(auto)]
+
 mod damage;
 pub mod kind;
 mod record;

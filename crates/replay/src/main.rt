@@ -1,5 +1,7 @@
 // Reads a script of calls from standard input, makes them one after another on lent slices, and prints a line for each.
 // docs/REPLAY.md has the format. Every function is proved safe; no contract says what is printed.
+#![tactic(auto)]
+
 mod assembling;
 mod building;
 mod job_step;

@@ -18,6 +18,8 @@
 // answer, rounded down and rounded up, gives both.
 //
 // Form of a reference: set size (0 unsized, else 1 to 4) plus 8 if pushed. 0 to 4 and 8 to 12; any other names nothing.
+#![tactic(auto)]
+
 mod assemble;
 mod build;
 mod small;

@@ -1,5 +1,7 @@
 // Document 01, module 3: the tests for 7, 8 (of document 02, request 5, with 17 and 18) and 9, and the settling. The lent table holds what
 // the tests need to remember; it is 0 again when they refuse.
+#![tactic(auto)]
+
 mod passes;
 mod search;
 mod section;

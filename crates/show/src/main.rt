@@ -1,5 +1,7 @@
 // Builds the store of document 01's line 12, a jump from one mark to the next, and prints its listing. No input.
 // Every function is proved safe; what is printed is held against crates/show/stdout.
+#![tactic(auto)]
+
 use listing::Listed;
 use records::Assembler;
 use store::Built;

@@ -1,4 +1,6 @@
 // Slices and lists as both wings use them: bytes copied over others, and in specs/ the first number that passes a test.
+#![tactic(auto)]
+
 ghost use Rattle.std.specs.Prelude.{◌≡◌, ◌+◌, ◌≤◌, length};
 ghost use Rattle.slices.specs.Over.{over, over_if_room};
 

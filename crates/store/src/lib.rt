@@ -1,6 +1,8 @@
 // Document 01, module 2: the building calls. Each takes the store's counts by value and is lent the byte slice and the slice of words.
 // It answers the new counts, or a refusal with nothing changed. Refusals are tested in the order 1, 2, 3, 6, 4, 5, and byte by byte of a
 // run of op bytes. The work is done by number (`building`); here numbers become counts and refusals.
+#![tactic(auto)]
+
 ghost use Rattle.std.specs.Prelude.{◌≡◌};
 ghost use Rattle.records.specs.Store.{store_of, words_per_section};
 ghost use Rattle.calls.specs.Calls.{push_mark, push_op_byte, push_swap, push_dup, push_exchange, push_data, push_reference, push_reply, push_after};

@@ -1,5 +1,7 @@
 // Document 01, module 1: mark numbers and byte positions, set sizes, references, and the size of a reference for a value;
 // and 'Replies', the refusals. Knows nothing of stored words, offset tables or passes.
+#![tactic(auto)]
+
 pub mod form;
 mod reply;
 
