@@ -17,7 +17,7 @@ use slices::write_bytes;
 use units::Refusal;
 
 // The two kinds of section that hold bytes.
-#[derive(Drop)]
+#[derive(Clone, Copy)]
 pub enum BytesKind {
     Ops,
     Data,

@@ -21,7 +21,7 @@ use units::Refusal;
 
 // Written: the code's length and the passes made; or a refusal, with the result unchanged: of assembly 6 to 13, 17 or 18, with the table
 // all 0; of a write 6 to 10, 12, 13 or 16 to 18.
-#[derive(Drop)]
+#[derive(Clone, Copy)]
 pub enum Assembled {
     Written { length: u32, passes: u32 },
     Refused(Refusal),

@@ -5,7 +5,7 @@ ghost use Rattle.evm.specs.Landing.{landing_at};
 use crate::op;
 
 // Whether a jump may land.
-#[derive(Drop)]
+#[derive(Clone, Copy)]
 pub enum Landing {
     Yes,
     No,

@@ -14,7 +14,7 @@ pub const DUP1: u8 = 0x80;
 pub const SWAP1: u8 = 0x90;
 
 // The Rust's Option<u8>: the bytes of immediate after a push, 1 to 32.
-#[derive(Drop)]
+#[derive(Clone, Copy)]
 pub enum PushSize {
     NoPush,
     Bytes(u8),

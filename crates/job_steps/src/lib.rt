@@ -18,7 +18,7 @@ pub use validate::MAX_JOB;
 use validate::is_job;
 
 // What a job's steps come to: the store's counts, the refusal of the first refused call, or 15, no job.
-#[derive(Drop)]
+#[derive(Clone, Copy)]
 pub enum JobBuilt {
     Stored(Assembler),
     Refused(Refusal),

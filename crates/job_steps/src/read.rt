@@ -21,7 +21,7 @@ pub(crate) const DIRECT: u8 = 4;
 pub(crate) const DELTA: u8 = 32;
 
 // A kind and two numbers.
-#[derive(Drop)]
+#[derive(Clone, Copy)]
 pub(crate) struct Step {
     pub(crate) kind: u8,
     pub(crate) first: u32,

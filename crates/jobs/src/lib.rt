@@ -17,7 +17,7 @@ use text::{write_code, write_refused};
 use units::Refusal;
 
 // What a job comes to: its code's length and the passes made, the refusal of a call or of assembly, or 15, no job.
-#[derive(Drop)]
+#[derive(Clone, Copy)]
 pub enum JobReply {
     Code { length: u32, passes: u32 },
     Refused(Refusal),
@@ -25,7 +25,7 @@ pub enum JobReply {
 }
 
 // What running a job answers: the reply and the text's length; or the text buffer is shorter than the longest text.
-#[derive(Drop)]
+#[derive(Clone, Copy)]
 pub enum JobRun {
     Ran { reply: JobReply, text_length: usize },
     ShortText,

@@ -15,7 +15,7 @@ use sections::write_store;
 use units::Refusal;
 
 // The answer to a listing call: the text's length, or a refusal.
-#[derive(Drop)]
+#[derive(Clone, Copy)]
 pub enum Listed {
     Text(usize),
     Refused(Refusal),

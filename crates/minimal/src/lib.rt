@@ -22,7 +22,7 @@ use units::Refusal;
 const WORD: usize = 32;
 
 // What a scan for the first nonzero byte answers: the zero bytes before it, and the bytes looked at.
-#[derive(Drop)]
+#[derive(Clone, Copy)]
 pub struct Scan {
     pub zeros: usize,
     pub looked: usize,

@@ -8,7 +8,7 @@ use units::form::{MAX, MAX_SIZE, PUSHED};
 use units::{AsmReference, MarkReference, SetSize};
 
 // What a form names.
-#[derive(Drop)]
+#[derive(Clone, Copy)]
 pub enum Form {
     Names(SetSize, bool),
     Nothing,

@@ -8,7 +8,7 @@ ghost use Rattle.opcodes.specs.Names.{op_name, padded};
 mod text;
 
 // The Rust's &'static str: a name's bytes and then zeros, and how many bytes it has.
-#[derive(Drop)]
+#[derive(Clone, Copy)]
 pub struct OpName(pub [u8; 14], pub usize);
 
 // The name of an opcode; UNKNOWN for a byte that is none.

@@ -10,14 +10,14 @@ use crate::{Assembler, kind};
 use units::{AsmBytesIdx, BytesSpan, form};
 
 // Sound, or the section that number 6 reports.
-#[derive(Drop)]
+#[derive(Clone, Copy)]
 pub enum Soundness {
     Sound,
     Damaged(u32),
 }
 
 // What the tests need of a section that can be read: the span of Ops or Data, or nothing of a mark or a reference.
-#[derive(Drop)]
+#[derive(Clone, Copy)]
 enum Held {
     Bytes(BytesSpan),
     Nothing,
@@ -25,7 +25,7 @@ enum Held {
 
 // What three words are read as here: `SectionRead` without what marks and references hold, so that it stays in registers
 // (docs/PERFORMANCE.md).
-#[derive(Drop)]
+#[derive(Clone, Copy)]
 enum HeldRead {
     Read(Held),
     Damaged,

@@ -16,7 +16,7 @@ pub use record::{
 };
 
 // A store: the count of sections and the count of stored bytes, over a lent byte slice and a lent slice of words.
-#[derive(Drop)]
+#[derive(Clone, Copy)]
 pub struct Assembler {
     pub sections: u32,
     pub bytes: u32,

@@ -11,7 +11,7 @@ use units::{
 };
 
 // A section as it is read back.
-#[derive(Drop)]
+#[derive(Clone, Copy)]
 pub enum AsmSection {
     Mark(MarkId),
     Ops(BytesSpan),
@@ -20,14 +20,14 @@ pub enum AsmSection {
 }
 
 // What three words are read as.
-#[derive(Drop)]
+#[derive(Clone, Copy)]
 pub enum SectionRead {
     Read(AsmSection),
     Damaged,
 }
 
 // The three words of a section.
-#[derive(Drop)]
+#[derive(Clone, Copy)]
 pub struct StoredSection {
     pub kind: u32,
     pub first: u32,

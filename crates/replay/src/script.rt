@@ -21,7 +21,7 @@ pub(crate) const MAX_RESULT: usize = 262144;
 pub(crate) const MAX_LISTING: usize = 1048576;
 
 // The lengths of the five slices, and the pool count.
-#[derive(Drop)]
+#[derive(Clone, Copy)]
 pub(crate) struct Header {
     pub(crate) bytes: usize,
     pub(crate) words: usize,
@@ -31,14 +31,14 @@ pub(crate) struct Header {
     pub(crate) pool: usize,
 }
 
-#[derive(Drop)]
+#[derive(Clone, Copy)]
 pub(crate) enum HeaderRead {
     Good(Header),
     Bad,
 }
 
 // A kind and two numbers.
-#[derive(Drop)]
+#[derive(Clone, Copy)]
 pub(crate) struct Step {
     pub(crate) kind: u8,
     pub(crate) a: u32,

@@ -29,7 +29,7 @@ use units::{MarkId, Refusal};
 
 // Laid out: the code's length in all and the passes made; or a refusal: of settling 6 to 12, 17 or 18, with the table all 0. The tests of a
 // table from anyone (`tables`) answer in it too: 6 to 10, 12 or 16 to 18, with 0 passes and the table as it was.
-#[derive(Drop)]
+#[derive(Clone, Copy)]
 pub enum Settled {
     LaidOut { length: u32, passes: u32 },
     Refused(Refusal),

@@ -50,7 +50,7 @@ pub fn earlier(found: u32, i: u32, is_one: bool) -> u32
 
 // What the walk of the placings finds. The first section with a mark at or past the table's length, at which it stops; the first placing
 // with bytes between it and an earlier one; each the count of sections if there is none. And whether it met a delta.
-#[derive(Drop)]
+#[derive(Clone, Copy)]
 pub(crate) struct Placings {
     pub(crate) short: u32,
     pub(crate) apart: u32,

@@ -14,7 +14,7 @@ use records::Assembler;
 use units::{AsmReference, MarkId, Refusal};
 
 // What a building call answers: the store's counts after it, or a refusal with nothing changed.
-#[derive(Drop)]
+#[derive(Clone, Copy)]
 pub enum Built {
     Stored(Assembler),
     Refused(Refusal),

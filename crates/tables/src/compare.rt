@@ -12,7 +12,7 @@ use units::{MarkId, SizeFor};
 
 // Where the walk stopped: the first section that is a 7, a 16 or a 10, the count of sections if there is none. If there is none, the sum of
 // sizes, and the first backward delta, the count of sections if there is none.
-#[derive(Drop)]
+#[derive(Clone, Copy)]
 pub(crate) struct Compared {
     pub(crate) stopped: u32,
     pub(crate) length: u32,

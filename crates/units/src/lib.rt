@@ -13,29 +13,29 @@ ghost use Rattle.units.specs.Form.{size_number, form_number};
 pub use reply::Refusal;
 
 // The number of a mark. A store takes 0 to 1,048,575.
-#[derive(Drop)]
+#[derive(Clone, Copy)]
 pub struct MarkId(pub u32);
 
 // A position in a store's bytes.
-#[derive(Drop)]
+#[derive(Clone, Copy)]
 pub struct AsmBytesIdx(pub u32);
 
 // The Rust's Span<AsmBytesIdx>: the bytes from start up to and without end.
-#[derive(Drop)]
+#[derive(Clone, Copy)]
 pub struct BytesSpan {
     pub start: AsmBytesIdx,
     pub end: AsmBytesIdx,
 }
 
 // The Rust's Span<MarkId>: the two marks of a delta.
-#[derive(Drop)]
+#[derive(Clone, Copy)]
 pub struct MarkSpan {
     pub start: MarkId,
     pub end: MarkId,
 }
 
 // A number of bytes that a value is written in.
-#[derive(Drop)]
+#[derive(Clone, Copy)]
 pub enum RefSize {
     S1,
     S2,
@@ -44,20 +44,20 @@ pub enum RefSize {
 }
 
 // The Rust's Option<RefSize>.
-#[derive(Drop)]
+#[derive(Clone, Copy)]
 pub enum SetSize {
     Unsized,
     Sized(RefSize),
 }
 
 // What a reference's value is read from: one mark's offset, or the end mark's offset minus the start mark's.
-#[derive(Drop)]
+#[derive(Clone, Copy)]
 pub enum MarkReference {
     Direct(MarkId),
     Delta(MarkSpan),
 }
 
-#[derive(Drop)]
+#[derive(Clone, Copy)]
 pub struct AsmReference {
     pub mark_ref: MarkReference,
     pub set_size: SetSize,
@@ -65,7 +65,7 @@ pub struct AsmReference {
 }
 
 // A reference's size for a value, or that its set size is below the value's held bytes.
-#[derive(Drop)]
+#[derive(Clone, Copy)]
 pub enum SizeFor {
     Bytes(u32),
     TooNarrow,
