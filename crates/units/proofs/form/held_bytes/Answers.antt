@@ -10,8 +10,7 @@ use borrow.Author.Rules.{rules}
 use borrow.Author.Tests.{lt-ltb, le-ltb}
 use Rattle.units.specs.Numbers.{held_bytes}
 use Rattle.units.proofs.Held.{held_1, held_2, held_3, held_4, held_le, by_range}
-use Rattle.units.proofs.form.held_bytes.Statement.{statement}
-use Rattle.units.proofs.form.held_bytes.Tie as tie
+use Rattle.units.proofs.form.held_bytes.Goals as goal
 
 -- a test counts at most one
 at_most_one : (t : Bool) → bool_byte t ≤ 1
@@ -30,39 +29,18 @@ sum-held v =
     (λ l h. rw (lt-ltb 255 v (omega arith), lt-ltb 65535 v (omega arith), le-ltb 16777215 v (omega arith), held_3 v l h))
     (λ l. rw (lt-ltb 255 v (omega arith), lt-ltb 65535 v (omega arith), lt-ltb 16777215 v (omega arith), held_4 v l))
 
-cast-above-one : tie.Need-overflow-cast-above-one
-cast-above-one c = search rules
+pub overflow_add-result : goal.overflow_add-result
+overflow_add-result c = omega (arith, at_most_one (ltb 255 c.args.value))
 
-cast-above-two : tie.Need-overflow-cast-above-two
-cast-above-two c = search rules
+pub overflow_add-result-2 : goal.overflow_add-result-2
+overflow_add-result-2 c = omega (arith, at_most_one (ltb 255 c.args.value), at_most_one (ltb 65535 c.args.value))
 
-cast-above-three : tie.Need-overflow-cast-above-three
-cast-above-three c = search rules
-
-add-result : tie.Need-overflow-add-result
-add-result c = omega (arith, at_most_one (ltb 255 c.args.value))
-
-add-result-2 : tie.Need-overflow-add-result-2
-add-result-2 c = omega (arith, at_most_one (ltb 255 c.args.value), at_most_one (ltb 65535 c.args.value))
-
-add-result-3 : tie.Need-overflow-add-result-3
-add-result-3 c =
+pub overflow_add-result-3 : goal.overflow_add-result-3
+overflow_add-result-3 c =
     let v = c.args.value in
     omega (arith, at_most_one (ltb 255 v), at_most_one (ltb 65535 v), at_most_one (ltb 16777215 v))
 
-returns : tie.Need-returns
+pub returns : goal.returns
 returns c =
     let v = c.args.value in
     (sum-held v, subst (λ (n : ℕ). n ≤ 4) (sym (sum-held v)) (held_le v))
-
-pub held-bytes-spec : {M : Type 1} → statement M
-held-bytes-spec =
-    tie.close
-    (tie.spec
-    cast-above-one
-    cast-above-two
-    cast-above-three
-    add-result
-    add-result-2
-    add-result-3
-    returns)
