@@ -8,31 +8,12 @@ use mathlib.Core.List.{List}
 use lib.ListN.{length, take, drop, set, replicate, length-set}
 use Rattle.slices.proofs.Over.{has_room, length_over}
 use Rattle.minimal.proofs.Digits.{opcode_before}
-use Rattle.minimal.proofs.push_bytes.Statement.{statement}
-use Rattle.minimal.proofs.push_bytes.Tie as tie
+use Rattle.minimal.proofs.push_bytes.Goals as goal
 
-slice-aggregate-write-bytes : tie.Need-slice-aggregate-write-bytes
-slice-aggregate-write-bytes c = search rules
-
-write-bytes-requires : tie.Need-write-bytes-requires
-write-bytes-requires c κs = search rules
-
-sub-push : tie.Need-overflow-sub-push
-sub-push c = search rules
-
-cast-push : tie.Need-overflow-cast-push
-cast-push c = search rules
-
-add_push : tie.Need-overflow-add-push
-add_push c = search rules
-
-array-write-push : tie.Need-array-write-push
-array-write-push c = search rules
-
-returns : tie.Need-returns
+pub returns : goal.returns
 returns c =
-    let made = c.before in
-    let start = made.before.before.before in
+    let made = c in
+    let start = made in
     let digits = start.args.digits.now in
     let zeros = start.args.zeros in
     let room : 1 + length digits ≤ 33 = omega (arith, start.requires) in
@@ -42,15 +23,3 @@ returns c =
       ap (λ (x : List ℕ). take (length digits + 1 - zeros) (drop zeros (set x zeros op))) written
           ∙ opcode_before digits (drop (1 + length digits) (replicate 33 0)) zeros op start.requires.1,
     )
-
-pub push-bytes-spec : {M : Type 1} → statement M
-push-bytes-spec =
-    tie.close
-    (tie.spec
-    slice-aggregate-write-bytes
-    write-bytes-requires
-    sub-push
-    cast-push
-    add_push
-    array-write-push
-    returns)
