@@ -73,7 +73,7 @@ pub(crate) fn add_ops_lines<'a, 'b>(
     }
 }
 
-// Adds `  PUSH.mark1` or `  RAW (.mark1 - .mark0):2`.
+// Adds `  PUSH .mark1` or `  RAW (.mark1 - .mark0):2`.
 pub(crate) fn add_reference_line<'a>(sink: TextSink<'a>, reference: AsmReference) -> TextSink<'a>
     requires { Room sink.count (reference_line reference) }
     ensures { result ≡ added sink.entry (reference_line reference) }
