@@ -1,0 +1,44 @@
+-- The invariant: the first i entries are 0, the others as they were. The measure is what is left.
+-- Assumes nothing.
+use Prim.Native.Nat.{ℕ, ◌-◌, ◌≤◌}
+use native.Mathlib.Omega.{arith}
+use mathlib.Core.Path.{◌≡◌, refl, ap, ◌∙◌}
+use mathlib.Core.List.{List, ◌++◌, append-nil}
+use lib.ListN.{length, set, drop, replicate, length-set, drop_of_length-le}
+use borrow.Author.Rules.{rules}
+use borrow.Author.Fill.{fill_none, fill_more}
+use Rattle.settling.proofs.table.clear.Goals as goal
+
+pub loop-i-init : goal.loop-i-init
+loop-i-init c = (omega arith, refl, fill_none _ 0)
+
+pub bounds-table-i : goal.bounds-table-i
+bounds-table-i c = omega arith
+
+pub overflow_add-i : goal.overflow_add-i
+overflow_add-i c = omega arith
+
+pub loop-i-smaller : goal.loop-i-smaller
+loop-i-smaller c = simp length-set (omega arith)
+
+pub loop-i-preserved : goal.loop-i-preserved
+loop-i-preserved c =
+    let turning = c in
+    let i = turning.loop-i.i in
+    let long = length-set turning.loop-i.table i 0 in
+    let filled = ap (λ (t : List ℕ). set t i 0) turning.loop-i.invariant.2 ∙ fill_more i 0 _ (omega arith) in
+    (omega (arith, long), long ∙ turning.loop-i.invariant.1, filled)
+
+pub shape_of-table : goal.shape_of-table
+shape_of-table c = c.loop-i.invariant.1
+
+pub returns : goal.returns
+returns c =
+    let turning = c in
+    let old = turning.args.table.now in
+    let all : turning.loop-i.i ≡ length old = omega arith in
+    let past : length old ≤ turning.loop-i.i = omega arith in
+    turning.loop-i.invariant.2
+    ∙ ap (λ (t : List ℕ). replicate turning.loop-i.i 0 ++ t) (drop_of_length-le old past)
+    ∙ append-nil (replicate turning.loop-i.i 0)
+    ∙ ap (λ (k : ℕ). replicate k 0) all
