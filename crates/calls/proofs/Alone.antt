@@ -1,26 +1,25 @@
 -- Laws of a section that stands alone: adding its words is adding the section; and one law for each way that code goes.
 -- Assumes nothing.
-use Prim.Native.Nat.{ℕ, ◌+◌, ◌*◌, min}
+use Prim.Native.Nat.{ℕ, ◌+◌, min}
 use native.Mathlib.Omega.{arith}
 use native.Mathlib.Nat.{add-zero}
-use mathlib.Core.Path.{◌≡◌, refl, sym, ap, ◌∙◌}
-use mathlib.Core.Bool.{Bool, true, false, cond, and-false}
+use mathlib.Core.Path.{◌≡◌, refl, sym, ◌∙◌}
+use mathlib.Core.Bool.{true, false, and-false}
 use mathlib.Core.List.{List, []}
 use lib.Dec.{ltb}
 use lib.ListN.{length}
 use borrow.Author.Tests.{le-ltb}
 use Rattle.units.specs.Replies.{sections_full, damaged}
 use Rattle.units.specs.Reply.{accepted, refused}
-use Rattle.slices.specs.Over.{over}
 use Rattle.slices.proofs.Over.{over_nothing}
 use Rattle.records.specs.declared.record.StoredSection.{StoredSection}
 use Rattle.records.specs.declared.damage.Soundness.{Soundness}
 use Rattle.records.specs.declared.damage.Soundness.TheVariants.{Sound, Damaged}
-use Rattle.records.specs.Store.{Store, counts_of, max_bytes, record_words}
+use Rattle.records.specs.Store.{Store, counts_of, max_bytes}
 use Rattle.records.specs.Damage.{last_soundness}
 use Rattle.records.specs.Sections.{Section, mark, ops, bytes, reference}
 use Rattle.records.proofs.Damages.{good_bytes}
-use Rattle.calls.specs.Calls.{BuiltReply, bytes_of, words_of, joins, appended, with_section, bytes_pass, no_section_left, section_passes, room_reply, add_reply, add_after, if_stored}
+use Rattle.calls.specs.Calls.{BuiltReply, bytes_of, words_of, joins, with_section, bytes_pass, no_section_left, section_passes, room_reply, add_reply, add_after, if_stored}
 use Rattle.calls.specs.Alone.{StandsAlone, with_words, words_reply, words_after}
 use Rattle.calls.proofs.Rooms.{sound_counts}
 

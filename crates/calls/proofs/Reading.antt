@@ -13,7 +13,7 @@ use borrow.Author.Tests.{ltb-false, eqb-true, le-leb}
 use Rattle.units.specs.declared.SetSize.{SetSize}
 use Rattle.units.specs.declared.MarkReference.{MarkReference}
 use Rattle.units.specs.declared.MarkReference.TheVariants.{Direct, Delta}
-use Rattle.records.specs.declared.record.AsmSection.TheVariants.{Ops, Data, MarkRef}
+use Rattle.records.specs.declared.record.AsmSection.TheVariants.{MarkRef}
 use Rattle.records.specs.declared.record.SectionRead.{SectionRead}
 use Rattle.records.specs.declared.record.SectionRead.TheVariants.{Read}
 use Rattle.records.specs.Record.{max_mark, ops_kind, data_kind, read_mark, read_section, words_of_ref, reference_words}

@@ -1,6 +1,6 @@
 -- Text as bytes: what a text's literal stands for in a byte slice. Assumes nothing.
 use Rattle.std.specs.Prelude.{ℕ, List, [], ◌∷◌}
-use Prim.Native.Char.{Char, code}
+use Prim.Native.Char.{code}
 use Prim.Native.String.{String, [] as []ˢ, ◌∷◌ as ◌∷ˢ◌}
 
 -- the bytes of a text, its characters' codes (every text here is ASCII)

@@ -10,7 +10,6 @@ use Rattle.records.specs.Damage.{unreadable, is_span, broken_section, broken_las
 use Rattle.records.specs.Held.{held_by, held_read, ends_elsewhere, span_misplaced, is_misplaced, end_after}
 use Rattle.records.specs.declared.record.AsmSection.{AsmSection}
 use Rattle.records.specs.declared.record.AsmSection.TheVariants.{Ops, Data}
-use Rattle.records.specs.declared.record.SectionRead
 use Rattle.records.specs.declared.record.SectionRead.{SectionRead}
 use Rattle.records.specs.declared.record.StoredSection.{StoredSection}
 use Rattle.records.specs.declared.damage.Held.{Held}

@@ -7,7 +7,6 @@ use Rattle.records.specs.Store.{Store, section_words, bad_counts}
 use Rattle.records.specs.declared.record.SectionRead.{SectionRead}
 use Rattle.records.specs.declared.record.SectionRead.TheVariants.{Read, Damaged}
 use Rattle.records.specs.declared.record.StoredSection.{StoredSection}
-use Rattle.records.specs.declared.damage.Soundness
 use Rattle.records.specs.declared.damage.Soundness.{Soundness}
 
 -- an unlisted kind or field, a mark number too large, a start that exceeds its end

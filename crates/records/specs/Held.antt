@@ -1,9 +1,8 @@
 -- Internal to the tests for number 6 (src/damage.rt): a section as they read it. No public contract cites it. Assumes nothing.
-use Rattle.std.specs.Prelude.{ℕ, Bool, true, false, not, ◌&&◌, ◌||◌, eqb}
+use Rattle.std.specs.Prelude.{ℕ, Bool, false, not, ◌&&◌, ◌||◌, eqb}
 use Rattle.units.specs.declared.BytesSpan.{BytesSpan}
 use Rattle.records.specs.declared.record.AsmSection.{AsmSection}
 use Rattle.records.specs.declared.record.AsmSection.TheVariants.{Mark, Ops, Data, MarkRef}
-use Rattle.records.specs.declared.record.SectionRead
 use Rattle.records.specs.declared.record.SectionRead.{SectionRead}
 use Rattle.records.specs.declared.damage.Held.{Held}
 use Rattle.records.specs.declared.damage.Held.TheVariants.{Bytes, Nothing}

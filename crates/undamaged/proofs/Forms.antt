@@ -17,7 +17,7 @@ use Rattle.records.specs.declared.record.AsmSection.TheVariants.{MarkRef}
 use Rattle.records.specs.declared.record.SectionRead.{SectionRead}
 use Rattle.records.specs.declared.record.SectionRead.TheVariants.{Read}
 use Rattle.records.specs.declared.record.StoredSection.{StoredSection}
-use Rattle.undamaged.specs.Section.{marks_of, reference_of}
+use Rattle.undamaged.specs.Section.{reference_of}
 use Rattle.undamaged.proofs.Reading.{direct, delta, Reads, is_damaged_lem, is_mark, is_ops_lem, is_data, is_direct, is_delta_lem, reads, reference_read}
 
 -- the form in the words is the reference's

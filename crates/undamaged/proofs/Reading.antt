@@ -24,7 +24,7 @@ use Rattle.records.specs.declared.record.StoredSection.{StoredSection}
 use Rattle.records.specs.Record.{max_mark, mark_kind, ops_kind, data_kind, direct_kind, pushed_delta_kind, raw_delta_kind, delta_kind, set_size_of, read_mark, span, read_span, read_direct, read_delta, read_section, words_of_ref}
 use Rattle.units.specs.Form.{size_number, pushed_number}
 use Rattle.records.specs.Damage.{unreadable, is_span}
-use Rattle.records.specs.Sections.{mark, ops, bytes, reference, section_read}
+use Rattle.records.specs.Sections.{ops, bytes, section_read}
 use Rattle.slices.proofs.Tests.{cond_case}
 
 -- ---- what three words can be read as

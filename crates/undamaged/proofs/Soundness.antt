@@ -1,6 +1,6 @@
 -- The whole test and a building call's test as propositions: an undamaged store is one of plain facts, and `Damaged i` means that
 -- section i is the first that breaks a rule (or that a count is bad). Assumes nothing.
-use Prim.Native.Nat.{ℕ, zero, suc, ◌*◌, ◌≤◌, ◌<◌, ◌-◌}
+use Prim.Native.Nat.{ℕ, zero, suc, ◌<◌, ◌-◌}
 use native.Mathlib.Nat.{suc_inj, suc-ne-zero, le_refl, le_of_eq}
 use native.Mathlib.Omega.{arith}
 use mathlib.Core.Path.{◌≡◌, refl, sym, ap, ◌∙◌, subst}
@@ -8,12 +8,10 @@ use mathlib.Core.Bool.{Bool, true, false, cond, not, ◌&&◌, ◌||◌, true≢
 use mathlib.Mathlib.Data.Bool.Basic.{or-eq-false-eq-eq-false-and-eq-false as or-false, dichotomy}
 use mathlib.Core.Logic.Iff
 use mathlib.Core.Logic.{◌↔◌, ◌⊎◌, inl, inr}
-use lib.ListN.{length}
 use lib.Dec.{ltb, eqb}
 use borrow.Author.Tests.{ltb-true, ltb-false, leb-true, eqb-true, not-false, lt-ltb, le-ltb, le-leb, eq-eqb, ne_eqb}
-use Rattle.records.specs.Record.{read_section}
-use Rattle.records.specs.Store.{Store, max_bytes, max_sections, section_words, bad_counts}
-use Rattle.records.specs.Damage.{unreadable, is_span, end_before, spans_end, breaks_rule, first_broken, bad_count, broken_reply, whole_soundness, last_broken, bad_count_building, last_soundness}
+use Rattle.records.specs.Store.{Store, section_words, bad_counts}
+use Rattle.records.specs.Damage.{is_span, end_before, spans_end, breaks_rule, first_broken, bad_count, broken_reply, whole_soundness, last_broken, bad_count_building, last_soundness}
 use Rattle.records.specs.declared.damage.Soundness.{Soundness}
 use Rattle.records.specs.declared.damage.Soundness.TheVariants.{Sound, Damaged}
 use Rattle.undamaged.specs.View.{Undamaged, Facts, Within, Keeps, FirstBreak, DamagedAt, LastBreak}

@@ -1,6 +1,5 @@
 -- Every number of the table is below 256, so that the sum fits.
 -- Assumes nothing.
-use borrow.Author.Rules.{rules}
 use native.Mathlib.Omega.{arith}
 use Rattle.units.proofs.Refusals.{number_small}
 use Rattle.numbers.proofs.refusal_number.Goals as goal

@@ -5,7 +5,6 @@ use native.Mathlib.Omega.{arith}
 use Rattle.opcodes.specs.Names.{lookup, op_names, padded}
 use Rattle.opcodes.specs.Text.{as_bytes}
 use Rattle.opcodes.proofs.Naming.{unnamed}
-use borrow.Author.Rules.{rules}
 use Rattle.opcodes.proofs.name.Goals as goal
 
 pub returns-in-176-to-239 : goal.returns-in-176-to-239

@@ -1,9 +1,6 @@
 -- `write_bytes` copies where there is room, and else changes nothing. Assumes nothing.
-use borrow.Author.Rules.{rules}
 use native.Mathlib.Omega.{arith}
-use mathlib.Core.Path.{◌≡◌, sym, ◌∙◌}
-use Prim.Native.Nat.{◌+◌, ◌≤◌, ◌<◌}
-use lib.ListN.{length}
+use mathlib.Core.Path.{sym, ◌∙◌}
 use Rattle.slices.proofs.Over.{has_room, no_room}
 use Rattle.slices.proofs.write_bytes.Goals as goal
 

@@ -1,6 +1,5 @@
 -- Outside the code, at a JUMPDEST, at another byte.
 -- Assumes nothing.
-use borrow.Author.Rules.{rules}
 use Rattle.evm.proofs.Lands.{outside, at_jumpdest, at_other}
 use Rattle.evm.proofs.landing.lands.Goals as goal
 

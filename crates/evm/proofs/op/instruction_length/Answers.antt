@@ -1,6 +1,5 @@
 -- One byte more than the push size.
 -- Assumes nothing.
-use borrow.Author.Rules.{rules}
 use Rattle.evm.proofs.Opcodes.{length_from}
 use Rattle.evm.proofs.op.instruction_length.Goals as goal
 

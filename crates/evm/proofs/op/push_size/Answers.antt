@@ -1,6 +1,5 @@
 -- The range of the pushes with an immediate, and the two sides of it.
 -- Assumes nothing.
-use borrow.Author.Rules.{rules}
 use native.Mathlib.Omega.{arith}
 use Rattle.evm.proofs.Opcodes.{push_sized, push_below, push_above}
 use Rattle.evm.proofs.op.push_size.Goals as goal

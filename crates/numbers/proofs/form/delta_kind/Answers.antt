@@ -1,7 +1,6 @@
 -- The kind of a delta, pushed or not.
 -- Assumes nothing.
 use borrow.Author.Tests.{lt-ltb, le-ltb}
-use borrow.Author.Rules.{rules}
 use Rattle.numbers.proofs.form.delta_kind.Goals as goal
 
 pub returns-then-form-lt-PUSHED : goal.returns-then-form-lt-PUSHED

@@ -1,6 +1,5 @@
 -- The definition's tests as a match.
 -- Assumes nothing.
-use borrow.Author.Rules.{rules}
 use Rattle.numbers.proofs.Forms.{form_raw, form_pushed, form_between, form_above}
 use Rattle.numbers.proofs.form.form_of.Goals as goal
 

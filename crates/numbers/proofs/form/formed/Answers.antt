@@ -1,6 +1,5 @@
 -- The set size is the one that the number stands for.
 -- Assumes nothing.
-use borrow.Author.Rules.{rules}
 use Rattle.numbers.proofs.form.formed.Goals as goal
 
 pub returns : goal.returns

@@ -1,11 +1,10 @@
 -- `check_last` is the definition: counts, then bytes without sections, then the last section.
 -- Assumes nothing.
 -- ---- the store and its last section
-use Prim.Native.Nat.{ℕ, ◌-◌}
+use Prim.Native.Nat.{◌-◌}
 use native.Mathlib.Omega.{arith}
 use mathlib.Core.Path.{◌≡◌, sym, ap, ◌∙◌}
 use mathlib.Core.Bool.{Bool, true, false}
-use borrow.Author.Rules.{rules}
 use Rattle.records.specs.Damage.{broken_last, last_soundness}
 use Rattle.records.specs.Held.{held_by, held_read, ends_elsewhere}
 use Rattle.records.specs.Store.{Store, store_of, section_words, words_per_section}

@@ -1,6 +1,5 @@
 -- `check_store` is the definition: counts, then bytes that nothing holds, then the sections.
 -- Assumes nothing.
-use borrow.Author.Rules.{rules}
 use mathlib.Core.Path.{sym, ◌∙◌}
 use mathlib.Core.Path.{ap}
 use mathlib.Core.Bool.{◌&&◌}

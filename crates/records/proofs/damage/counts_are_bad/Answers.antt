@@ -1,6 +1,5 @@
 -- `counts_are_bad` is the definition's four tests, one after the other.
 -- Assumes nothing.
-use borrow.Author.Rules.{rules}
 use native.Mathlib.Omega.{arith}
 use Rattle.records.proofs.Damages.{bytes_past_slice, bytes_past_limit, sections_past_limit, words_past_slice}
 use Rattle.records.proofs.damage.counts_are_bad.Goals as goal

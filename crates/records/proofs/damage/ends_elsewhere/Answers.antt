@@ -1,6 +1,5 @@
 -- `ends_elsewhere` is the definition, case by case.
 -- Assumes nothing.
-use borrow.Author.Rules.{rules}
 use Rattle.records.proofs.damage.ends_elsewhere.Goals as goal
 
 pub returns-in-Bytes : goal.returns-in-Bytes

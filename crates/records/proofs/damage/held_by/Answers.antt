@@ -1,6 +1,5 @@
 -- `held_by` is the definition, case by case.
 -- Assumes nothing.
-use borrow.Author.Rules.{rules}
 use Rattle.records.proofs.damage.held_by.Goals as goal
 
 pub returns-in-Ops : goal.returns-in-Ops

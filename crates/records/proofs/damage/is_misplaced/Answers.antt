@@ -1,6 +1,5 @@
 -- `is_misplaced` is the definition, case by case.
 -- Assumes nothing.
-use borrow.Author.Rules.{rules}
 use Rattle.records.proofs.damage.is_misplaced.Goals as goal
 
 pub returns-in-Bytes : goal.returns-in-Bytes

@@ -2,7 +2,6 @@
 -- Assumes nothing.
 use mathlib.Core.Path.{sym, ◌∙◌}
 use Rattle.records.proofs.Unreadable.{unread_span, unread_other}
-use borrow.Author.Rules.{rules}
 use Rattle.records.proofs.damage.is_unreadable.Goals as goal
 
 pub returns-then-is_span : goal.returns-then-is_span

@@ -3,7 +3,6 @@
 use mathlib.Core.Path.{sym, ◌∙◌}
 use Rattle.records.proofs.Helds.{held_damaged, held_span, held_nothing}
 use Rattle.records.specs.Record.{read_section}
-use borrow.Author.Rules.{rules}
 use Rattle.records.proofs.damage.read_held.Goals as goal
 use Rattle.records.proofs.damage.read_held.Goals.{After-is_span}
 

@@ -1,9 +1,8 @@
 -- The invariant: what is passed holds no Ops or Data section, so the rest has the same last one. The measure is what is left.
 -- Assumes nothing.
-use borrow.Author.Rules.{rules}
 use mathlib.Core.Path.{◌≡◌, sym, ◌∙◌}
 use native.Mathlib.Omega.{arith}
-use Prim.Native.Nat.{◌+◌, ◌-◌, ◌≤◌, ◌<◌}
+use Prim.Native.Nat.{◌+◌, ◌-◌, ◌<◌}
 use mathlib.Core.Path.{refl, ap}
 use native.Mathlib.Nat.{sub-zero}
 use Rattle.records.specs.Damage.{is_span, spans_end}

@@ -1,14 +1,8 @@
 -- The invariant: what is passed holds no Ops or Data section, so the rest has the same last one. The measure is what is left.
 -- Assumes nothing.
-use borrow.Author.Rules.{rules}
-use mathlib.Core.Path.{◌≡◌, sym, ◌∙◌}
-use native.Mathlib.Omega.{arith}
-use Prim.Native.Nat.{◌+◌, ◌-◌, ◌≤◌, ◌<◌}
-use mathlib.Core.Path.{refl, ap}
-use native.Mathlib.Nat.{sub-zero}
-use Rattle.records.specs.Damage.{is_span, spans_end}
-use Rattle.records.specs.declared.record.StoredSection.{StoredSection}
-use Rattle.records.proofs.Damages.{spans_hit, spans_miss, spans_none}
+use mathlib.Core.Path.{◌≡◌}
+use Prim.Native.Nat.{◌-◌, ◌≤◌}
+use Rattle.records.specs.Damage.{spans_end}
 use Rattle.records.specs.Store.{store_of, words_per_section}
 use Rattle.records.proofs.damage.spans_end.Given as goal
 

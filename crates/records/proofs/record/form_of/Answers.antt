@@ -1,6 +1,5 @@
 -- `form_of` is the definition, by the kind word.
 -- Assumes nothing.
-use borrow.Author.Rules.{rules}
 use borrow.Author.Tests.{eq-eqb, ne_eqb, lt-ltb, le-ltb}
 use Rattle.records.specs.Record.{form_of}
 use Rattle.records.proofs.record.form_of.Goals as goal

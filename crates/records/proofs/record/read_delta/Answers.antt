@@ -1,6 +1,5 @@
 -- `read_delta` reads a delta: each return is one case of the definition.
 -- Assumes nothing.
-use borrow.Author.Rules.{rules}
 use Rattle.records.proofs.Reading.{delta_start_lem, delta_end_lem, delta_read}
 use Rattle.records.proofs.record.read_delta.Goals as goal
 

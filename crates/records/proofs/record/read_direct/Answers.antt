@@ -1,6 +1,5 @@
 -- `read_direct` reads a direct reference: each return is one case of the definition.
 -- Assumes nothing.
-use borrow.Author.Rules.{rules}
 use Rattle.records.proofs.Reading.{direct_large, direct_raw, direct_pushed, direct_between, direct_above}
 use Rattle.records.proofs.record.read_direct.Goals as goal
 

@@ -1,6 +1,5 @@
 -- `read_ref` makes the reference that was read.
 -- Assumes nothing.
-use borrow.Author.Rules.{rules}
 use Rattle.records.proofs.record.read_ref.Goals as goal
 
 pub returns : goal.returns

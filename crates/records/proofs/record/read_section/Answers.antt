@@ -1,6 +1,5 @@
 -- `read_section` reads a section: the kind picks the case of the definition.
 -- Assumes nothing.
-use borrow.Author.Rules.{rules}
 use native.Mathlib.Omega.{arith}
 use Prim.Native.Nat.{◌≤◌}
 use Rattle.records.proofs.Reading.{section_mark, section_ops, section_data, section_direct, section_pushed_delta, section_raw_delta, section_unlisted}

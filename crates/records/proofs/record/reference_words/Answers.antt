@@ -1,6 +1,5 @@
 -- `reference_words` gives the words of a reference: each return is one case of the definition.
 -- Assumes nothing.
-use borrow.Author.Rules.{rules}
 use native.Mathlib.Omega.{arith}
 use Rattle.records.proofs.Reading.{direct_words_pushed, direct_words_raw, delta_words_pushed, delta_words_raw}
 use Rattle.records.proofs.record.reference_words.Goals as goal

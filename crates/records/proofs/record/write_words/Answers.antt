@@ -2,9 +2,8 @@
 -- Assumes nothing.
 use Prim.Native.Nat.{◌+◌, ◌*◌, ◌≤◌, ◌<◌}
 use native.Mathlib.Omega.{arith}
-use mathlib.Core.Path.{◌≡◌, sym, ◌∙◌}
+use mathlib.Core.Path.{sym, ◌∙◌}
 use lib.ListN.{length, length-set}
-use borrow.Author.Rules.{rules}
 use Rattle.slices.proofs.Over.{has_room, no_room}
 use Rattle.records.specs.Record.{stored_section}
 use Rattle.records.proofs.Writing.{three_stores}

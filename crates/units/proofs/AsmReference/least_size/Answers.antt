@@ -1,7 +1,6 @@
 -- `least_size` is that of the form.
 -- Assumes nothing.
 use mathlib.Core.Path.{ap, ◌∙◌}
-use borrow.Author.Rules.{rules}
 use Rattle.units.specs.Form.{least_by_form}
 use Rattle.units.proofs.Forms.{least_form}
 use Rattle.units.proofs.AsmReference.least_size.Goals as goal

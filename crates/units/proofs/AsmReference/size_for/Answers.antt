@@ -2,7 +2,6 @@
 -- Assumes nothing.
 use Prim.Native.Nat.{ℕ}
 use mathlib.Core.Path.{ap, ◌∙◌}
-use borrow.Author.Rules.{rules}
 use Rattle.units.specs.Form.{size_by_form}
 use Rattle.units.proofs.Forms.{size_form}
 use Rattle.units.proofs.AsmReference.size_for.Goals as goal

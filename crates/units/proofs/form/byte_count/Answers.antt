@@ -1,6 +1,5 @@
 -- `byte_count` is the definition, by the set size in the form.
 -- Assumes nothing.
-use borrow.Author.Rules.{rules}
 use borrow.Author.Tests.{eq-eqb, ne_eqb}
 use Rattle.units.specs.Form.{count_by_form}
 use Rattle.units.proofs.form.byte_count.Goals as goal

@@ -6,7 +6,6 @@ use mathlib.Core.Path.{◌≡◌, subst, sym}
 use mathlib.Core.Bool.{Bool, true, false}
 use mir.Val.{bool_byte}
 use lib.Dec.{ltb}
-use borrow.Author.Rules.{rules}
 use borrow.Author.Tests.{lt-ltb, le-ltb}
 use Rattle.units.specs.Numbers.{held_bytes}
 use Rattle.units.proofs.Held.{held_1, held_2, held_3, held_4, held_le, by_range}

@@ -1,6 +1,5 @@
 -- `least_size` is the definition, by the set size in the form.
 -- Assumes nothing.
-use borrow.Author.Rules.{rules}
 use borrow.Author.Tests.{eq-eqb, ne_eqb}
 use Rattle.units.specs.Form.{least_by_form}
 use Rattle.units.proofs.form.least_size.Goals as goal

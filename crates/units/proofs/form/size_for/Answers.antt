@@ -1,6 +1,5 @@
 -- `size_for` is the definition: each return is one of its cases.
 -- Assumes nothing.
-use borrow.Author.Rules.{rules}
 use borrow.Author.Tests.{eq-eqb, ne_eqb, lt-ltb, le-ltb}
 use Rattle.units.specs.Form.{size_by_form}
 use Rattle.units.proofs.form.size_for.Goals as goal
