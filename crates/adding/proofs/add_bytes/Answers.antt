@@ -1,6 +1,5 @@
 -- 6, then 4, then the join or 5 and the new section. What is known at a place on the way is said once, and the returns cite it.
 -- Assumes nothing.
-use borrow.Author.Rules.{rules}
 use borrow.Author.Tests.{ltb-false}
 use native.Mathlib.Omega.{arith}
 use Prim.Native.Nat.{ℕ, ◌+◌, ◌*◌, ◌≤◌, min}

@@ -1,6 +1,5 @@
 -- 6, then the first byte's 4 and 5; then what adding all of them gives. What is known at a place on the way is said once.
 -- Assumes nothing.
-use borrow.Author.Rules.{rules}
 use Prim.Native.Nat.{ℕ, ◌*◌, ◌≤◌}
 use mathlib.Core.Path.{◌≡◌, sym, ◌∙◌, ap, subst}
 use mathlib.Core.Bool.{false}

@@ -1,6 +1,5 @@
 -- 6, then 5, then the new section. What is known at a place on the way is said once, and the returns cite it.
 -- Assumes nothing.
-use borrow.Author.Rules.{rules}
 use native.Mathlib.Omega.{arith}
 use Prim.Native.Nat.{ℕ}
 use mathlib.Core.Path.{◌≡◌, sym, ap, ◌∙◌, subst}

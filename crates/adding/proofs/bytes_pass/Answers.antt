@@ -1,6 +1,5 @@
 -- `bytes_pass` is the definition: the slice first, then the limit.
 -- Assumes nothing.
-use borrow.Author.Rules.{rules}
 use native.Mathlib.Omega.{arith}
 use Rattle.adding.proofs.Parts.{pass_slice, pass_limit}
 use Rattle.adding.proofs.bytes_pass.Goals as goal

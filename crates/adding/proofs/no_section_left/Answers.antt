@@ -1,6 +1,5 @@
 -- `no_section_left` is the definition: the limit first, then the slice.
 -- Assumes nothing.
-use borrow.Author.Rules.{rules}
 use native.Mathlib.Omega.{arith}
 use Rattle.calls.proofs.Rooms.{left_limit, left_slice}
 use Rattle.adding.proofs.no_section_left.Goals as goal

@@ -1,6 +1,5 @@
 -- A last Ops section is extended; else one must be left.
 -- Assumes nothing.
-use borrow.Author.Rules.{rules}
 use mathlib.Core.Path.{sym, ◌∙◌}
 use Rattle.adding.proofs.ops_section_passes.Goals as goal
 

@@ -1,6 +1,5 @@
 -- What adding the push of the number's eight bytes gives.
 -- Assumes nothing.
-use borrow.Author.Rules.{rules}
 use native.Mathlib.Omega.{arith}
 use Prim.Native.Nat.{ℕ, ◌<◌, ◌^◌}
 use mathlib.Core.Path.{ap, ◌∙◌}

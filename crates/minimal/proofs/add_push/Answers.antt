@@ -1,6 +1,5 @@
 -- One byte after the zeros, or none, tried at once; all else after the scan.
 -- Assumes nothing.
-use borrow.Author.Rules.{rules}
 use native.Mathlib.Omega.{arith}
 use mathlib.Core.Path.{ap}
 use Rattle.units.specs.Numbers.{number}

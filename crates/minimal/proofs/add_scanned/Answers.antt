@@ -1,6 +1,5 @@
 -- The op byte and the bytes after the leading zeros are the minimal push: tried at once, or judged.
 -- Assumes nothing.
-use borrow.Author.Rules.{rules}
 use native.Mathlib.Omega.{arith}
 use mathlib.Core.Path.{ap, ◌∙◌}
 use Rattle.units.specs.Numbers.{number}

@@ -1,6 +1,5 @@
 -- Eight bytes, each by its place in a number: where that is 0, so are they. Each place has the bounds of the bytes read before it.
 -- Assumes nothing.
-use borrow.Author.Rules.{rules}
 use native.Mathlib.Omega.{arith}
 use Prim.Native.Nat.{◌+◌}
 use mathlib.Core.Path.{refl}

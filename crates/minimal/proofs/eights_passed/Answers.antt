@@ -1,10 +1,6 @@
 -- The invariant: every byte before i is 0. The measure is what is left.
 -- Assumes nothing.
 use native.Mathlib.Omega.{arith}
-use Prim.Native.Nat.{◌-◌, ◌≤◌}
-use lib.ListN.{length}
-use borrow.Author.Tests.{not-false}
-use Rattle.minimal.specs.Groups.{ZerosFrom}
 use Rattle.minimal.proofs.Groups.{none, join}
 use Rattle.minimal.proofs.eights_passed.Goals as goal
 

@@ -1,6 +1,5 @@
 -- Four bytes, each by its place in a number, as `eight_zeros` has eight.
 -- Assumes nothing.
-use borrow.Author.Rules.{rules}
 use native.Mathlib.Omega.{arith}
 use Prim.Native.Nat.{◌+◌}
 use mathlib.Core.Path.{refl}

@@ -1,6 +1,5 @@
 -- The scan from where groups of zeros were passed over.
 -- Assumes nothing.
-use borrow.Author.Rules.{rules}
 use native.Mathlib.Omega.{arith}
 use Rattle.minimal.proofs.Groups.{join}
 use Rattle.minimal.proofs.leading_zeros.Goals as goal

@@ -1,6 +1,5 @@
 -- At once where the last section is extended; else what `add_number` gives.
 -- Assumes nothing.
-use borrow.Author.Rules.{rules}
 use mathlib.Core.Path.{refl}
 use Rattle.calls.specs.Calls.{push_minimal_u64}
 use Rattle.short.proofs.Judged.{pushed, push_judged}

@@ -1,9 +1,7 @@
 -- The invariant: every byte before i is 0, and they are the bytes looked at; so it is of those passed over. The measure is what is left.
 -- Assumes nothing.
-use mathlib.Core.Path.{◌≡◌, refl}
+use mathlib.Core.Path.{refl}
 use native.Mathlib.Omega.{arith}
-use Prim.Native.Nat.{ℕ, ◌-◌, ◌≤◌, ◌<◌}
-use lib.ListN.{length, get_or}
 use borrow.Author.Count.{below_more}
 use Rattle.minimal.specs.Zeros.{LeadingZeros}
 use Rattle.minimal.proofs.Looked.{looked_bytes}

@@ -1,11 +1,10 @@
 -- Four bytes compared at once, two, and one.
 -- Assumes nothing.
-use borrow.Author.Rules.{rules}
 use native.Mathlib.Omega.{arith}
 use Prim.Native.Nat.{◌+◌}
 use mathlib.Core.Path.{refl}
 use mathlib.Core.Bool.{false}
-use borrow.Author.Tests.{not-false, eqb-true}
+use borrow.Author.Tests.{eqb-true}
 use Rattle.slices.proofs.Tests.{clash}
 use Rattle.minimal.proofs.Groups.{seven}
 use Rattle.minimal.proofs.seven_zeros.Goals as goal

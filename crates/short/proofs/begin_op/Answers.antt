@@ -3,8 +3,6 @@
 use native.Mathlib.Omega.{arith}
 use mathlib.Core.List.{[], ◌∷◌}
 use Rattle.slices.proofs.Over.{over_one}
-use borrow.Author.Rules.{rules}
-use borrow.Author.Tests.{not-false}
 use Rattle.records.specs.Store.{Store, words_per_section}
 use Rattle.numbers.specs.Numbers.{store_in}
 use Prim.Native.Nat.{ℕ, ◌+◌}

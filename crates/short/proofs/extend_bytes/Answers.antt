@@ -1,8 +1,6 @@
 -- The bytes copied, for which there is room, and the end moved.
 -- Assumes nothing.
 use native.Mathlib.Omega.{arith}
-use borrow.Author.Rules.{rules}
-use borrow.Author.Tests.{not-false}
 use Rattle.records.specs.Store.{Store, words_per_section}
 use Rattle.numbers.specs.Numbers.{store_in}
 use Prim.Native.Nat.{◌%◌, ◌^◌}

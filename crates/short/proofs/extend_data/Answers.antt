@@ -5,7 +5,6 @@ use mathlib.Core.Path.{◌≡◌, ◌∙◌, subst}
 use mathlib.Core.List.{List}
 use native.Mathlib.Omega.{arith}
 use lib.ListN.{length, replicate}
-use borrow.Author.Rules.{rules}
 use Rattle.records.specs.Store.{Store}
 use Rattle.slices.proofs.Over.{has_room, over_whole}
 use Rattle.short.specs.Tried.{TriedSection, data_section}

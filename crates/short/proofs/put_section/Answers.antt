@@ -1,9 +1,6 @@
 -- The words of one section more, after a store that takes it.
 -- Assumes nothing.
-use native.Mathlib.Omega.{arith}
 use mathlib.Core.Path.{refl}
-use borrow.Author.Rules.{rules}
-use borrow.Author.Tests.{not-false}
 use Rattle.records.specs.Record.{stored_section}
 use Rattle.records.specs.Store.{Store, words_per_section}
 use Rattle.numbers.specs.Numbers.{store_in}

@@ -1,6 +1,5 @@
 -- What `building` answers, as counts or a refusal.
 -- Assumes nothing.
-use borrow.Author.Rules.{rules}
 use native.Mathlib.Omega.{arith}
 use Rattle.calls.specs.Calls.{push_data}
 use Rattle.store.proofs.Back.{by_number}

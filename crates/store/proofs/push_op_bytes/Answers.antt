@@ -1,6 +1,5 @@
 -- Nothing of an empty run; else what `building` answers, as counts or a refusal.
 -- Assumes nothing.
-use borrow.Author.Rules.{rules}
 use native.Mathlib.Omega.{arith}
 use Prim.Native.Nat.{◌^◌, ◌<◌}
 use Rattle.store.proofs.Back.{op_bytes_none, op_bytes_by_number}

@@ -1,6 +1,5 @@
 -- At once where an Ops section begins; else what adding the byte gives.
 -- Assumes nothing.
-use borrow.Author.Rules.{rules}
 use mathlib.Core.List.{[], ◌∷◌}
 use Rattle.records.specs.Sections.{ops}
 use Rattle.short.proofs.Judged.{add_judged}

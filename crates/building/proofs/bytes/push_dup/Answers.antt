@@ -1,6 +1,5 @@
 -- 1; at once where the last section is extended; else what `begin_op` gives.
 -- Assumes nothing.
-use borrow.Author.Rules.{rules}
 use mathlib.Core.Path.{refl, ◌∙◌}
 use borrow.Author.Tests.{lt-ltb, le-ltb}
 use Rattle.records.specs.Store.{words_per_section}

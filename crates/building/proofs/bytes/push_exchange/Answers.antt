@@ -1,6 +1,5 @@
 -- 1; with a 0 what `begin_op` gives; else three SWAPs, at once where the last section is extended or what adding them gives.
 -- Assumes nothing.
-use borrow.Author.Rules.{rules}
 use native.Mathlib.Omega.{arith}
 use Prim.Native.Nat.{◌≤◌}
 use mathlib.Core.Path.{◌≡◌, refl, sym, ◌∙◌}

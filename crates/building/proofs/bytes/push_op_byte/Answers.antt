@@ -1,6 +1,5 @@
 -- At once where the last section is extended; else what `begin_op` gives.
 -- Assumes nothing.
-use borrow.Author.Rules.{rules}
 use mathlib.Core.Path.{refl}
 use Rattle.calls.specs.Calls.{push_op_byte}
 use Rattle.short.proofs.Judged.{pushed, push_judged}

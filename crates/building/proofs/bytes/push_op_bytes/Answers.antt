@@ -1,6 +1,5 @@
 -- Nothing of an empty run; at once where the last section is extended, or an Ops section begins; else what judging the run gives.
 -- Assumes nothing.
-use borrow.Author.Rules.{rules}
 use native.Mathlib.Omega.{arith}
 use Rattle.records.specs.Store.{words_per_section}
 use Rattle.numbers.proofs.Adds.{op_bytes_empty, op_bytes_judged}

@@ -1,6 +1,5 @@
 -- Both marks by a test each.
 -- Assumes nothing.
-use borrow.Author.Rules.{rules}
 use mathlib.Core.Path.{sym, ◌∙◌}
 use Rattle.building.proofs.section.is_large_delta.Goals as goal
 

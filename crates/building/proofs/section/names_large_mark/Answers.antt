@@ -1,6 +1,5 @@
 -- By the case.
 -- Assumes nothing.
-use borrow.Author.Rules.{rules}
 use mathlib.Core.Path.{◌∙◌}
 use Rattle.building.proofs.section.names_large_mark.Goals as goal
 

@@ -1,11 +1,9 @@
 -- 255 for a form that names nothing; 3; at once after a last section; else what adding the words gives.
 -- Assumes nothing.
-use borrow.Author.Rules.{rules}
 use Prim.Native.Nat.{ℕ, ◌%◌}
 use mathlib.Core.Path.{◌≡◌, refl, sym, ap, ◌∙◌}
 use mathlib.Core.Bool.{true}
 use lib.Dec.{leb}
-use borrow.Author.Tests.{not-true, not-false}
 use Rattle.units.specs.declared.AsmReference.{AsmReference}
 use Rattle.records.specs.Record.{set_size_of, reference_words, stored_section}
 use Rattle.records.specs.Store.{words_per_section}

@@ -1,11 +1,9 @@
 -- 255 for a form that names nothing; 3; at once after a last section; else what adding the words gives.
 -- Assumes nothing.
-use borrow.Author.Rules.{rules}
 use Prim.Native.Nat.{◌%◌}
 use mathlib.Core.Path.{◌≡◌, refl, sym, ◌∙◌}
 use mathlib.Core.Bool.{true}
 use lib.Dec.{leb}
-use borrow.Author.Tests.{not-true, not-false}
 use Rattle.records.specs.Record.{set_size_of}
 use Rattle.records.specs.Store.{words_per_section}
 use Rattle.calls.specs.Calls.{Push, push_reference}

@@ -1,6 +1,5 @@
 -- 3; else what adding the words gives.
 -- Assumes nothing.
-use borrow.Author.Rules.{rules}
 use mathlib.Core.Path.{refl, sym, ◌∙◌}
 use Rattle.records.specs.Store.{words_per_section}
 use Rattle.calls.specs.Calls.{push_reference}

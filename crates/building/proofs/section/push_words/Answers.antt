@@ -1,6 +1,5 @@
 -- At once after a last section; else what adding the words gives.
 -- Assumes nothing.
-use borrow.Author.Rules.{rules}
 use Rattle.records.specs.Record.{stored_section}
 use Rattle.short.proofs.Judged.{words_judged}
 use Rattle.building.proofs.section.push_words.Goals as goal

@@ -1,7 +1,6 @@
 -- The kind by the first test, the rest by `ends_at`.
 -- Assumes nothing.
 use mathlib.Core.Bool.{false≢true}
-use borrow.Author.Rules.{rules}
 use Rattle.short.proofs.last.is_kind_to.Goals as goal
 
 pub returns-then-words-at : goal.returns-then-words-at

@@ -1,7 +1,6 @@
 -- Both words by a test each.
 -- Assumes nothing.
 use mathlib.Core.Bool.{false≢true}
-use borrow.Author.Rules.{rules}
 use Rattle.short.proofs.last.is_mark.Goals as goal
 
 pub returns-then-second-ne0 : goal.returns-then-second-ne0

@@ -3,7 +3,6 @@
 use Rattle.short.proofs.Whole.{whole_mark, whole_bytes, whole_reference}
 use native.Mathlib.Omega.{arith}
 use mathlib.Core.Bool.{false≢true}
-use borrow.Author.Rules.{rules}
 use Rattle.short.proofs.last.is_whole.Goals as goal
 
 pub returns-then-kind-eq-MARK : goal.returns-then-kind-eq-MARK

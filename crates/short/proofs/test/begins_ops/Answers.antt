@@ -1,9 +1,8 @@
 -- Each test on the way is a field.
 -- Assumes nothing.
-use borrow.Author.Tests.{not-true, not-false, eqb-false}
+use borrow.Author.Tests.{not-true, eqb-false}
 use native.Mathlib.Omega.{arith}
 use mathlib.Core.Bool.{false≢true}
-use borrow.Author.Rules.{rules}
 use Rattle.short.proofs.test.begins_ops.Goals as goal
 
 pub returns-then-bytes-end : goal.returns-then-bytes-end

@@ -2,7 +2,6 @@
 -- Assumes nothing.
 use native.Mathlib.Omega.{arith}
 use mathlib.Core.Bool.{false≢true}
-use borrow.Author.Rules.{rules}
 use Rattle.short.proofs.test.extends.Goals as goal
 
 pub returns-then-bytes-stored : goal.returns-then-bytes-stored

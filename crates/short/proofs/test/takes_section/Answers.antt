@@ -2,7 +2,6 @@
 -- Assumes nothing.
 use native.Mathlib.Omega.{arith}
 use mathlib.Core.Bool.{false≢true}
-use borrow.Author.Rules.{rules}
 use Rattle.short.proofs.test.takes_section.Goals as goal
 
 pub returns-then-words-next : goal.returns-then-words-next

@@ -1,6 +1,5 @@
 -- The record is written where there is room, which the caller has shown.
 -- Assumes nothing.
-use borrow.Author.Rules.{rules}
 use mathlib.Core.Path.{refl, ◌∙◌}
 use Rattle.records.specs.Record.{stored_section}
 use Rattle.records.proofs.Writing.{record_room}

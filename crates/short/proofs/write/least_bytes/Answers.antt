@@ -1,9 +1,6 @@
 -- The invariant: the bytes counted and those of the rest are all. The measure is the rest.
 -- Assumes nothing.
 use native.Mathlib.Nat.{sub-zero}
-use Rattle.units.specs.Numbers.{least_bytes}
-use mathlib.Core.Path.{◌≡◌}
-use Prim.Native.Nat.{◌+◌, ◌-◌}
 use Rattle.short.proofs.Digits.{least_more, least_all, least_eight}
 use native.Mathlib.Omega.{arith}
 use Rattle.short.proofs.write.least_bytes.Goals as goal

@@ -1,11 +1,8 @@
 -- The invariant: the bytes counted and those of the rest are all. The measure is the rest.
 -- Assumes nothing.
-use native.Mathlib.Nat.{sub-zero}
 use Rattle.units.specs.Numbers.{least_bytes}
 use mathlib.Core.Path.{◌≡◌}
 use Prim.Native.Nat.{◌+◌, ◌-◌}
-use Rattle.short.proofs.Digits.{least_more, least_all, least_eight}
-use native.Mathlib.Omega.{arith}
 use Rattle.short.proofs.write.least_bytes.Given as goal
 
 abbrev pub invariant-loop-rest : goal.invariant-loop-rest

@@ -7,7 +7,7 @@ use Rattle.units.specs.Numbers.{big_endian}
 use Rattle.units.proofs.BigEndian.{length_big_endian}
 use lib.ListN.{length, length-set}
 use native.Mathlib.Nat.{mod-lt}
-use Prim.Native.Nat.{ℕ, suc, ◌+◌, ◌-◌, ◌/◌, ◌%◌, ◌≤◌, ◌<◌}
+use Prim.Native.Nat.{ℕ, suc, ◌+◌, ◌-◌, ◌/◌, ◌%◌, ◌<◌}
 use mathlib.Core.Path.{◌≡◌, refl, ap, ◌∙◌}
 use native.Mathlib.Omega.{arith}
 use Rattle.short.proofs.write.write_number.Goals as goal

@@ -1,15 +1,10 @@
 -- The invariant: the bytes left, written over what there is now, are the number. The measure is what is left.
 -- Assumes nothing.
-use Rattle.short.proofs.Digits.{digits_done}
-use Rattle.slices.proofs.Over.{over_set}
 use Rattle.slices.specs.Over.{over}
 use Rattle.units.specs.Numbers.{big_endian}
-use Rattle.units.proofs.BigEndian.{length_big_endian}
-use lib.ListN.{length, length-set}
-use native.Mathlib.Nat.{mod-lt}
-use Prim.Native.Nat.{ℕ, suc, ◌+◌, ◌-◌, ◌/◌, ◌%◌, ◌≤◌, ◌<◌}
-use mathlib.Core.Path.{◌≡◌, refl, ap, ◌∙◌}
-use native.Mathlib.Omega.{arith}
+use lib.ListN.{length}
+use Prim.Native.Nat.{◌≤◌}
+use mathlib.Core.Path.{◌≡◌}
 use Rattle.short.proofs.write.write_number.Given as goal
 
 abbrev pub invariant-loop-left : goal.invariant-loop-left
