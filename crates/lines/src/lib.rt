@@ -99,7 +99,7 @@ fn put_size(text: &mut [u8], at: usize, set_size: SetSize) -> usize
     put_decimal(text, opened, size.bytes())
 }
 
-// `  PUSH.mark1` or `  RAW (.mark1 - .mark0):2`
+// `  PUSH .mark1` or `  RAW (.mark1 - .mark0):2`
 pub fn put_reference_line(text: &mut [u8], at: usize, reference: AsmReference) -> usize
     ensures { Put text.old at (reference_line reference) result text.new }
 {

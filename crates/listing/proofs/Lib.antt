@@ -4,9 +4,3 @@ pub mod Every
 pub mod SectionLines
 pub mod ListingAnswers
 pub mod Examples
-pub mod Again
-pub mod Held
-pub mod Sinks
-pub mod Values
-pub mod Adding
-pub mod AddingFrom

@@ -1,4 +1,4 @@
-// The sections of an undamaged store: their lines, added to a text sink. The functions over the sink are walks of their MIR, by hand.
+// The sections of an undamaged store: their lines, added to a text sink.
 ghost use Rattle.std.specs.Prelude.{◌≡◌, false, ◌+◌, ◌*◌, ◌≤◌, length};
 ghost use Rattle.std.proofs.lemmas.List.Edits.{sets};
 ghost use Rattle.records.specs.Record.{direct_kind, read_section};
@@ -56,9 +56,9 @@ fn reference_in(section: StoredSection) -> AsmReference
 }
 
 // Adds the lines of one section, from its words: a word becomes a mark or a byte position by the section's kind.
-fn add_section<'a, 'b>(sink: TextSink<'a>, bytes: &'b [u8], section: StoredSection) -> TextSink<'a>
-    requires { ReadIn (length bytes.now) (read_section section) × Room sink.count (words_text bytes.now section) }
-    ensures { result ≡ added sink.entry (words_text bytes.now section) }
+fn add_section(sink: &mut TextSink, bytes: &[u8], section: StoredSection)
+    requires { ReadIn (length bytes.now) (read_section section) × Room sink.old.count (words_text bytes.now section) }
+    ensures { sink.new ≡ added sink.old (words_text bytes.now section) }
 {
     match section.kind {
         kind::MARK => add_mark_line(sink, MarkId(section.first)),
@@ -83,22 +83,15 @@ fn add_section<'a, 'b>(sink: TextSink<'a>, bytes: &'b [u8], section: StoredSecti
 }
 
 // Adds the lines of every section of a store, by its two counts and its two slices.
-fn add_sections<'a, 'b, 'c>(
-    mut sink: TextSink<'a>,
-    stored: u32,
-    sections: u32,
-    bytes: &'b [u8],
-    words: &'c [u32],
-) -> TextSink<'a>
-    requires { Listable words_per_section (store_with stored sections bytes.now words.now) sink.count }
-    ensures { result ≡ added sink.entry (store_text words_per_section (store_with stored sections bytes.now words.now)) }
+fn add_sections(sink: &mut TextSink, stored: u32, sections: u32, bytes: &[u8], words: &[u32])
+    requires { Listable words_per_section (store_with stored sections bytes.now words.now) sink.old.count }
+    ensures { sink.new ≡ added sink.old (store_text words_per_section (store_with stored sections bytes.now words.now)) }
 {
     let mut i: u32 = 0;
     while i < sections {
-        sink = add_section(sink, bytes, section_words(words, i));
+        add_section(sink, bytes, section_words(words, i));
         i += 1;
     }
-    sink
 }
 
 // The lines of every section of a store, added to a sink over the text. Answers the count written.
@@ -114,6 +107,7 @@ pub(crate) fn write_store(
         × (text.new
         ≡ sets text.old 0 (store_text words_per_section (store_with stored sections bytes.now words.now))) }
 {
-    let sink = add_sections(new(text), stored, sections, bytes, words);
+    let mut sink = new(text);
+    add_sections(&mut sink, stored, sections, bytes, words);
     sink.count
 }

@@ -1,6 +1,5 @@
-// The text sink: a lent slice and the count of bytes written. Every line is added through it: an adder takes the sink and hands it back,
-// the line written and the count advanced. Each is thin over the covered function on the slice and the number, and its proof is a walk
-// of its MIR by hand (proofs/Adding, proofs/AddingFrom: one law for each of two signatures).
+// The text sink: a lent slice and the count of bytes written. Every line is added through it: an adder takes the sink, writes the line
+// and advances the count. Each is thin over the function on the slice and the number (in `lines`).
 ghost use Rattle.std.specs.Prelude.{◌≡◌};
 ghost use Rattle.undamaged.specs.Section.{span_bytes};
 ghost use Rattle.lines.specs.Lines.{mark_line, data_line, ops_lines, reference_line};
@@ -27,61 +26,33 @@ pub(crate) fn new<'a>(text: &'a mut [u8]) -> TextSink<'a>
 }
 
 // Adds `.mark7:`.
-pub(crate) fn add_mark_line<'a>(sink: TextSink<'a>, mark: MarkId) -> TextSink<'a>
-    requires { Room sink.count (mark_line mark.0) }
-    ensures { result ≡ added sink.entry (mark_line mark.0) }
+pub(crate) fn add_mark_line(sink: &mut TextSink, mark: MarkId)
+    requires { Room sink.old.count (mark_line mark.0) }
+    ensures { sink.new ≡ added sink.old (mark_line mark.0) }
 {
-    let at = sink.count;
-    let next = put_mark_line(&mut *sink.text, at, mark);
-    TextSink {
-        text: sink.text,
-        count: next,
-    }
+    sink.count = put_mark_line(sink.text, sink.count, mark);
 }
 
 // Adds `  data 0xaabb (2 bytes)`.
-pub(crate) fn add_data_line<'a, 'b>(
-    sink: TextSink<'a>,
-    bytes: &'b [u8],
-    span: BytesSpan,
-) -> TextSink<'a>
-    requires { Room sink.count (data_line (span_bytes bytes.now span)) }
-    ensures { result ≡ added sink.entry (data_line (span_bytes bytes.now span)) }
+pub(crate) fn add_data_line(sink: &mut TextSink, bytes: &[u8], span: BytesSpan)
+    requires { Room sink.old.count (data_line (span_bytes bytes.now span)) }
+    ensures { sink.new ≡ added sink.old (data_line (span_bytes bytes.now span)) }
 {
-    let at = sink.count;
-    let next = put_data_line(&mut *sink.text, at, bytes, span);
-    TextSink {
-        text: sink.text,
-        count: next,
-    }
+    sink.count = put_data_line(sink.text, sink.count, bytes, span);
 }
 
 // Adds the lines of an Ops section, one for each instruction.
-pub(crate) fn add_ops_lines<'a, 'b>(
-    sink: TextSink<'a>,
-    bytes: &'b [u8],
-    span: BytesSpan,
-) -> TextSink<'a>
-    requires { Room sink.count (ops_lines (span_bytes bytes.now span)) }
-    ensures { result ≡ added sink.entry (ops_lines (span_bytes bytes.now span)) }
+pub(crate) fn add_ops_lines(sink: &mut TextSink, bytes: &[u8], span: BytesSpan)
+    requires { Room sink.old.count (ops_lines (span_bytes bytes.now span)) }
+    ensures { sink.new ≡ added sink.old (ops_lines (span_bytes bytes.now span)) }
 {
-    let at = sink.count;
-    let next = put_ops_lines(&mut *sink.text, at, bytes, span);
-    TextSink {
-        text: sink.text,
-        count: next,
-    }
+    sink.count = put_ops_lines(sink.text, sink.count, bytes, span);
 }
 
-// Adds `  PUSH.mark1` or `  RAW (.mark1 - .mark0):2`.
-pub(crate) fn add_reference_line<'a>(sink: TextSink<'a>, reference: AsmReference) -> TextSink<'a>
-    requires { Room sink.count (reference_line reference) }
-    ensures { result ≡ added sink.entry (reference_line reference) }
+// Adds `  PUSH .mark1` or `  RAW (.mark1 - .mark0):2`.
+pub(crate) fn add_reference_line(sink: &mut TextSink, reference: AsmReference)
+    requires { Room sink.old.count (reference_line reference) }
+    ensures { sink.new ≡ added sink.old (reference_line reference) }
 {
-    let at = sink.count;
-    let next = put_reference_line(&mut *sink.text, at, reference);
-    TextSink {
-        text: sink.text,
-        count: next,
-    }
+    sink.count = put_reference_line(sink.text, sink.count, reference);
 }

@@ -1,0 +1,81 @@
+-- Four bytes, each by its place in a number, as `eight_zeros` has eight.
+-- Assumes nothing.
+use borrow.Author.Rules.{rules}
+use native.Mathlib.Omega.{arith}
+use Prim.Native.Nat.{◌+◌}
+use mathlib.Core.Path.{refl}
+use mathlib.Core.Bool.{false}
+use Rattle.slices.proofs.Tests.{clash}
+use Rattle.minimal.proofs.Groups.{four}
+use Rattle.minimal.proofs.four_zeros.Goals as goal
+
+pub overflow_cast-all : goal.overflow_cast-all
+overflow_cast-all c =
+    let at = c.args.at in
+    let byte = c.shared_slice_known-1.given in
+    omega (arith, byte at)
+
+pub overflow_mul-all : goal.overflow_mul-all
+overflow_mul-all c =
+    let at = c.args.at in
+    let byte = c.shared_slice_known-1.given in
+    omega (arith, byte at)
+
+pub overflow_cast-all-2 : goal.overflow_cast-all-2
+overflow_cast-all-2 c =
+    let at = c.args.at in
+    let byte = c.shared_slice_known-2-1.given in
+    omega (arith, byte (at + 1))
+
+pub overflow_mul-all-2 : goal.overflow_mul-all-2
+overflow_mul-all-2 c =
+    let at = c.args.at in
+    let byte = c.shared_slice_known-2-1.given in
+    omega (arith, byte (at + 1))
+
+pub overflow_add-all-2 : goal.overflow_add-all-2
+overflow_add-all-2 c =
+    let at = c.args.at in
+    let byte = c.shared_slice_known-2-1.given in
+    omega (arith, byte at, byte (at + 1))
+
+pub overflow_cast-all-3 : goal.overflow_cast-all-3
+overflow_cast-all-3 c =
+    let at = c.args.at in
+    let byte = c.shared_slice_known-3-1.given in
+    omega (arith, byte (at + 2))
+
+pub overflow_mul-all-3 : goal.overflow_mul-all-3
+overflow_mul-all-3 c =
+    let at = c.args.at in
+    let byte = c.shared_slice_known-3-1.given in
+    omega (arith, byte (at + 2))
+
+pub overflow_add-all-4 : goal.overflow_add-all-4
+overflow_add-all-4 c =
+    let at = c.args.at in
+    let byte = c.shared_slice_known-3-1.given in
+    omega (arith, byte at, byte (at + 1), byte (at + 2))
+
+pub overflow_cast-all-4 : goal.overflow_cast-all-4
+overflow_cast-all-4 c =
+    let at = c.args.at in
+    let byte = c.shared_slice_known-4-1.given in
+    omega (arith, byte (at + 3))
+
+pub overflow_add-all-6 : goal.overflow_add-all-6
+overflow_add-all-6 c =
+    let at = c.args.at in
+    let byte = c.shared_slice_known-4-1.given in
+    omega (arith, byte at, byte (at + 1), byte (at + 2), byte (at + 3))
+
+pub returns-then-all-ne0 : goal.returns-then-all-ne0
+returns-then-all-ne0 c e = clash false e refl
+
+pub returns : goal.returns
+returns c e =
+    let start = c in
+    let word = start.args.word.now in
+    let at = start.args.at in
+    let sum = c.if-all-ne0.false in
+    four word at (omega (arith, sum)) (omega (arith, sum)) (omega (arith, sum)) (omega (arith, sum))

@@ -1,0 +1,17 @@
+-- What `building` answers, as counts or a refusal.
+-- Assumes nothing.
+use borrow.Author.Rules.{rules}
+use native.Mathlib.Omega.{arith}
+use Rattle.calls.specs.Calls.{push_op_byte}
+use Rattle.store.proofs.Back.{by_number}
+use Rattle.store.proofs.push_op_byte.Goals as goal
+
+pub returns : goal.returns
+returns c =
+    let called = c in
+    let counted = called in
+    let start = counted in
+    let a = start.args in
+    let all = by_number (push_op_byte a.byte) a.store a.bytes.now a.words.now _ counted.state_of.ensures (omega arith) c.built_of.ensures
+    (called.push_op_byte.ensures.reply, (called.push_op_byte.ensures.bytes, called.push_op_byte.ensures.words)) in
+    record { reply = all.0; bytes = all.1.0; words = all.1.1 }
