@@ -1,16 +1,14 @@
 -- Every answer that is given comes back out of its number: passes at most 1,024, a code's length below 2^32, a text's below 2^56.
 -- Assumes nothing.
-use Prim.Native.Nat.{ℕ, suc, ◌+◌, ◌^◌, ◌≤◌, ◌<◌}
+use Prim.Native.Nat.{ℕ, suc, ◌+◌, ◌^◌, ◌<◌}
 use native.Mathlib.Omega.{arith}
-use mathlib.Core.Path.{◌≡◌, refl, sym, ap, ◌∙◌, subst}
+use mathlib.Core.Path.{◌≡◌, refl, sym, subst}
 use mathlib.Core.Bool.{Bool, true, false, cond}
 use mathlib.Core.List.{List, [], ◌∷◌}
 use lib.Dec.{ltb}
 use lib.ListN.{length}
-use Rattle.units.specs.declared.AsmReference.{AsmReference}
 use Rattle.units.specs.Reference.{too_narrow}
-use Rattle.units.specs.Replies.{listing_full}
-use Rattle.units.specs.Reply.{refused, numbers_reply}
+use Rattle.units.specs.Reply.{numbers_reply}
 use Rattle.slices.proofs.Tests.{cond_case}
 use Rattle.records.specs.Store.{Store}
 use Rattle.records.specs.Sections.{Section, mark, ops, bytes, reference, decode}

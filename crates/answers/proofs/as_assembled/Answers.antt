@@ -1,6 +1,5 @@
 -- Each answer of settling has one of assembly with the same reply.
 -- Assumes nothing.
-use borrow.Author.Rules.{rules}
 use mathlib.Core.Path.{sym, ap}
 use Rattle.settling.specs.Settle.{settled_reply}
 use Rattle.answers.proofs.as_assembled.Goals as goal

@@ -1,6 +1,5 @@
 -- What `assembler::assemble` answers, as a number, and its clauses of the defined reply.
 -- Assumes nothing.
-use borrow.Author.Rules.{rules}
 use Rattle.answers.proofs.ByNumber.{assembled_packs, assembled_all}
 use Rattle.answers.proofs.assemble.Goals as goal
 use Rattle.answers.proofs.assemble.Goals.{After-assemble, After-counts_in, Start}

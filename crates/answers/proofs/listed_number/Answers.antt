@@ -1,6 +1,5 @@
 -- The text's length as it is; a refusal by its numbers, which pack.
 -- Assumes nothing.
-use borrow.Author.Rules.{rules}
 use mathlib.Core.Path.{sym, ap, ◌∙◌, subst}
 use Rattle.listing.specs.Answer.{listed_reply}
 use Rattle.numbers.proofs.Bounds.{refusal_whole}

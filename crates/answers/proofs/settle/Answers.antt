@@ -1,6 +1,5 @@
 -- What `settling::settle` answers, as a number, and its clauses of the defined reply.
 -- Assumes nothing.
-use borrow.Author.Rules.{rules}
 use mathlib.Core.Path.{◌∙◌}
 use Rattle.answers.proofs.ByNumber.{settled_packs, settled_all}
 use Rattle.answers.proofs.settle.Goals as goal

@@ -1,6 +1,5 @@
 -- What `assembler::write` answers, as a number, and its clauses of the defined reply.
 -- Assumes nothing.
-use borrow.Author.Rules.{rules}
 use Rattle.answers.proofs.ByNumber.{wrote_packs, wrote_all}
 use Rattle.answers.proofs.write.Goals as goal
 use Rattle.answers.proofs.write.Goals.{After-counts_in, After-write, Start}

@@ -1,6 +1,5 @@
 -- What `listing::write_asm` answers, as a number.
 -- Assumes nothing.
-use borrow.Author.Rules.{rules}
 use Rattle.answers.proofs.ByNumber.{listed_packs, listed_all}
 use Rattle.answers.proofs.write_asm.Goals as goal
 use Rattle.answers.proofs.write_asm.Goals.{After-counts_in, After-write_asm, Start}

@@ -1,6 +1,5 @@
 -- 1 for yes, 0 for no.
 -- Assumes nothing.
-use borrow.Author.Rules.{rules}
 use mathlib.Core.Path.{ap, sym, ◌∙◌}
 use Rattle.facts.specs.Facts.{landing_number}
 use Rattle.facts.proofs.lands.Goals as goal

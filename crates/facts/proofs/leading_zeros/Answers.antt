@@ -1,6 +1,5 @@
 -- The bytes looked at are the zeros or one more, so half of the sum is the zeros, and the half rounded up the bytes looked at.
 -- Assumes nothing.
-use borrow.Author.Rules.{rules}
 use native.Mathlib.Omega.{arith}
 use mathlib.Core.Path.{subst}
 use Rattle.minimal.specs.Zeros.{LeadingZeros}

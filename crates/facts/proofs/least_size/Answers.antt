@@ -1,6 +1,5 @@
 -- Nothing for a form that names nothing; else the least size.
 -- Assumes nothing.
-use borrow.Author.Rules.{rules}
 use native.Mathlib.Nat.{zero-add}
 use mathlib.Core.Path.{ap, sym, ◌∙◌}
 use Rattle.units.specs.Reference.{least_size}

@@ -1,6 +1,5 @@
 -- The first bytes of the array are the name, if it has room.
 -- Assumes nothing.
-use borrow.Author.Rules.{rules}
 use mathlib.Core.Path.{sym}
 use lib.Seq.{length-take-le}
 use Rattle.opcodes.proofs.Naming.{name_within}

@@ -1,6 +1,5 @@
 -- The size of a push, or 0.
 -- Assumes nothing.
-use borrow.Author.Rules.{rules}
 use mathlib.Core.Path.{ap, sym, ◌∙◌}
 use Rattle.evm.specs.Opcodes.{immediate_bytes}
 use Rattle.facts.proofs.push_size.Goals as goal

@@ -1,6 +1,5 @@
 -- Nothing for a form that names nothing; else the size, or 10.
 -- Assumes nothing.
-use borrow.Author.Rules.{rules}
 use native.Mathlib.Nat.{zero-add}
 use mathlib.Core.Path.{◌≡◌, ap, sym, ◌∙◌}
 use Rattle.units.specs.declared.AsmReference.{AsmReference}

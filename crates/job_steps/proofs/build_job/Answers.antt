@@ -1,12 +1,10 @@
 -- By the outcomes of JobBuilds: 15, or what the calls answer.
 -- Assumes nothing.
-use borrow.Author.Rules.{rules}
 use mathlib.Core.Path.{◌≡◌, sym, ap, ◌∙◌}
 use mathlib.Core.Bool.{true}
 use Rattle.records.specs.Store.{Store, store_of, empty_counts, words_per_section}
 use Rattle.store.specs.Built.{built_reply}
 use Rattle.job_steps.specs.JobFormat.{is_job}
-use Rattle.job_steps.proofs.JobSteps.{denied, granted}
 use Rattle.job_steps.proofs.JobBuilds.{builds_none, builds_called}
 use Rattle.job_steps.proofs.build_job.Goals as goal
 use Rattle.job_steps.proofs.build_job.Goals.{Else-not-is_job, Start}

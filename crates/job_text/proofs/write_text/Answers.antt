@@ -1,6 +1,5 @@
 -- The slices are as long as the request says, and what they hold doesn't matter.
 -- Assumes nothing.
-use borrow.Author.Rules.{rules}
 use mathlib.Core.Path.{sym, ◌∙◌}
 use Rattle.jobs.specs.JobOutcome.{lent_slices}
 use Rattle.job_text.proofs.JobAlone.{MadeSlices, made_outcome}

@@ -1,6 +1,5 @@
 -- By the longer of the two texts.
 -- Assumes nothing.
-use borrow.Author.Rules.{rules}
 use native.Mathlib.Omega.{arith}
 use Prim.Native.Nat.{◌-◌, ◌/◌}
 use mathlib.Core.Path.{sym}

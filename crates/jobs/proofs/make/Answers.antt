@@ -1,6 +1,5 @@
 -- By the outcomes of JobMade: 15, a refused call, or assembly.
 -- Assumes nothing.
-use borrow.Author.Rules.{rules}
 use mathlib.Core.Path.{sym, ap, ◌∙◌}
 use Rattle.job_steps.specs.JobBuild.{job_built_reply}
 use Rattle.jobs.proofs.JobMade.{made_refused, made_assembled}

@@ -1,6 +1,5 @@
 -- By the answer's cases.
 -- Assumes nothing.
-use borrow.Author.Rules.{rules}
 use mathlib.Core.Path.{sym, ap}
 use Rattle.assembler.specs.Assemble.{assembled_reply}
 use Rattle.jobs.proofs.reply_of.Goals as goal

@@ -1,6 +1,5 @@
 -- By the cases of a reply.
 -- Assumes nothing.
-use borrow.Author.Rules.{rules}
 use native.Mathlib.Omega.{arith}
 use Prim.Native.Nat.{◌≤◌}
 use mathlib.Core.Path.{sym, ap, ap₂, ◌∙◌, subst}

@@ -1,6 +1,5 @@
 -- Four bytes are two and two.
 -- Assumes nothing.
-use borrow.Author.Rules.{rules}
 use native.Mathlib.Omega.{arith}
 use Rattle.job_steps.proofs.JobBytes.{four_bytes}
 use Rattle.job_steps.proofs.read.number_at.Goals as goal

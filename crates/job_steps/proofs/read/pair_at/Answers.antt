@@ -1,6 +1,5 @@
 -- Two bytes by `two_bytes`, each at most 255.
 -- Assumes nothing.
-use borrow.Author.Rules.{rules}
 use native.Mathlib.Omega.{arith}
 use Prim.Native.Nat.{◌+◌, ◌≤◌}
 use lib.ListN.{get_or}

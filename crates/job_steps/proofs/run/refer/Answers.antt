@@ -1,6 +1,5 @@
 -- `push_reference` of the reference in its form.
 -- Assumes nothing.
-use borrow.Author.Rules.{rules}
 use mathlib.Core.Path.{◌≡◌, subst}
 use Rattle.units.specs.declared.AsmReference.{AsmReference}
 use Rattle.records.specs.Store.{store_of, words_per_section}

@@ -1,6 +1,5 @@
 -- The invariant: with the steps left still to be taken, the job is as it is to be. The measure is their count.
 -- Assumes nothing.
-use borrow.Author.Rules.{rules}
 use native.Mathlib.Omega.{arith}
 use Prim.Native.Nat.{ℕ, ◌+◌, ◌-◌}
 use mathlib.Core.Path.{◌≡◌, refl, sym, ap, ap₂, ◌∙◌}
@@ -12,7 +11,7 @@ use Rattle.store.specs.Built.{built_reply}
 use Rattle.job_steps.specs.JobFormat.{number_at, pool, steps_start, step_at, is_listed}
 use Rattle.job_steps.specs.JobCalls.{step_call}
 use Rattle.job_steps.proofs.JobSteps.{Answers, as_step}
-use Rattle.job_steps.proofs.JobLoops.{IsJob, Taking, job_facts, pool_length, pool_lent, taking_start, taking_listed, taking_refused, taking_next, taking_done}
+use Rattle.job_steps.proofs.JobLoops.{IsJob, job_facts, pool_length, pool_lent, taking_start, taking_listed, taking_refused, taking_next, taking_done}
 use Rattle.job_steps.proofs.run.run_steps.Goals as goal
 use Rattle.job_steps.proofs.run.run_steps.Goals.{After-number_at, After-slice_known-in-loop-left-2-1, After-step_at, After-take_step-built, At-loop-left, Start}
 

@@ -1,11 +1,8 @@
 -- The invariant: whether the steps left are listed is whether all are. The measure is their count.
 -- Assumes nothing.
-use borrow.Author.Rules.{rules}
 use native.Mathlib.Omega.{arith}
-use Prim.Native.Nat.{◌+◌, ◌*◌}
 use mathlib.Core.Path.{◌≡◌, refl, sym, ap, ◌∙◌}
-use Rattle.job_steps.specs.JobFormat.{step_at, is_listed, all_listed, steps_from}
-use Rattle.job_steps.proofs.JobSteps.{denied, granted}
+use Rattle.job_steps.specs.JobFormat.{step_at, is_listed}
 use Rattle.job_steps.proofs.JobLoops.{listed_stop, listed_next, listed_done}
 use Rattle.job_steps.proofs.validate.all_listed.Goals as goal
 use Rattle.job_steps.proofs.validate.all_listed.Goals.{After-is_listed, At-loop-left}

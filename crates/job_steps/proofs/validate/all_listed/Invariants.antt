@@ -1,12 +1,8 @@
 -- The invariant: whether the steps left are listed is whether all are. The measure is their count.
 -- Assumes nothing.
-use borrow.Author.Rules.{rules}
-use native.Mathlib.Omega.{arith}
 use Prim.Native.Nat.{◌+◌, ◌*◌}
-use mathlib.Core.Path.{◌≡◌, refl, sym, ap, ◌∙◌}
-use Rattle.job_steps.specs.JobFormat.{step_at, is_listed, all_listed, steps_from}
-use Rattle.job_steps.proofs.JobSteps.{denied, granted}
-use Rattle.job_steps.proofs.JobLoops.{listed_stop, listed_next, listed_done}
+use mathlib.Core.Path.{◌≡◌}
+use Rattle.job_steps.specs.JobFormat.{all_listed, steps_from}
 use Rattle.job_steps.proofs.validate.all_listed.Given as goal
 
 abbrev pub invariant-loop-left : goal.invariant-loop-left

@@ -1,13 +1,11 @@
 -- The three tests in turn.
 -- Assumes nothing.
-use borrow.Author.Rules.{rules}
 use native.Mathlib.Omega.{arith}
 use Prim.Native.Nat.{ℕ, ◌+◌, ◌*◌}
 use mathlib.Core.Path.{◌≡◌, sym, ap, ap₂, ◌∙◌}
 use mathlib.Core.Bool.{true}
 use lib.ListN.{length}
 use Rattle.job_steps.specs.JobFormat.{number_at, step_count, steps_start, step_bytes, steps_from, all_listed, is_whole}
-use Rattle.job_steps.proofs.JobSteps.{denied, granted}
 use Rattle.job_steps.proofs.JobLoops.{too_long, not_whole, if_listed, whole_length}
 use Rattle.job_steps.proofs.validate.is_job.Goals as goal
 use Rattle.job_steps.proofs.validate.is_job.Goals.{After-number_at-steps, Else-not-is_whole, Start}

@@ -1,6 +1,5 @@
 -- By the kind.
 -- Assumes nothing.
-use borrow.Author.Rules.{rules}
 use mathlib.Core.Path.{sym, ◌∙◌}
 use borrow.Author.Tests.{le-leb, lt-leb}
 use Rattle.job_steps.proofs.JobSteps.{IsOther, listed_mark, listed_op, listed_data, listed_direct, listed_other, second_test, first_test}

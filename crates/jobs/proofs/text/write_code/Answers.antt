@@ -1,6 +1,5 @@
 -- The three parts in a row.
 -- Assumes nothing.
-use borrow.Author.Rules.{rules}
 use Rattle.opcodes.specs.Text.{as_bytes}
 use Rattle.jobs.proofs.JobTexts.{code_written}
 use Rattle.jobs.proofs.text.write_code.Goals as goal

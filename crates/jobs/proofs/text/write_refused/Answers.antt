@@ -1,6 +1,5 @@
 -- The five parts in a row; a number has at most two digits, a section ten.
 -- Assumes nothing.
-use borrow.Author.Rules.{rules}
 use native.Mathlib.Omega.{arith}
 use Prim.Native.Nat.{◌≤◌}
 use Rattle.opcodes.specs.Text.{as_bytes}
