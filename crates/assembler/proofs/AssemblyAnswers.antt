@@ -1,6 +1,5 @@
 -- The law of each answer of assembly: 6 to 13, 17, 18 and written, each exactly in its stated condition. Assumes nothing.
 use Prim.Native.Nat.{ℕ}
-use native.Mathlib.Omega.{arith}
 use mathlib.Core.Path.{◌≡◌, refl, sym, ap, ◌∙◌, subst}
 use mathlib.Core.Bool.{Bool, true, false, cond}
 use mathlib.Core.Logic.{◌↔◌, inr}

@@ -1,6 +1,6 @@
 -- Runs in which no mark moves, runs over the first sections, the sum that a run comes to; and that a run which comes to no more than
 -- the run below it, from whose offsets it started, moves no mark. Assumes nothing.
-use Prim.Native.Nat.{ℕ, ◌+◌, ◌-◌, ◌≤◌}
+use Prim.Native.Nat.{ℕ, ◌+◌, ◌≤◌}
 use native.Mathlib.Omega.{arith}
 use mathlib.Core.Path.{◌≡◌, refl, sym, ◌∙◌}
 use mathlib.Core.Bool.{Bool, true, false, cond}

@@ -1,7 +1,7 @@
 -- The theory over any width rule: least sizes, sizes that grow with the value, at least the least and at most that and a growth, by no
 -- more than a step while the value stays within a reach, and the widths that a layout may have, which are at least the size. What a pass
 -- keeps, and what it comes to. Assumes nothing.
-use Prim.Native.Nat.{ℕ, ◌+◌, ◌-◌, ◌≤◌}
+use Prim.Native.Nat.{ℕ, ◌+◌, ◌≤◌}
 use native.Mathlib.Omega.{arith}
 use mathlib.Core.Path.{◌≡◌, refl, subst}
 use mathlib.Core.Bool.{Bool}

@@ -9,7 +9,6 @@ use mathlib.Core.List.{List, ◌∷◌}
 use lib.Dec.{leb, ltb}
 use lib.ListN.{length, replicate}
 use borrow.Author.Tests.{leb-true, leb-false, ltb-true, ltb-false}
-use Rattle.units.specs.Reference.{too_narrow}
 use Rattle.units.specs.Replies.{max_passes}
 use Rattle.records.specs.Sections.{Section, reference}
 use Rattle.layout.specs.Layout.{Layout, in_all, GivesEnough}

@@ -11,7 +11,7 @@ use lib.ListN.{length, length-append}
 use lib.Dec.{leb, ltb, eqb}
 use borrow.Author.Tests.{ltb-false, eqb-true, eqb-false, le-leb, eq-eqb, not-false}
 use Rattle.units.specs.Numbers.{number}
-use Rattle.records.specs.Sections.{ops, bytes}
+use Rattle.records.specs.Sections.{ops}
 use Rattle.calls.specs.Calls.{Push, push_mark, push_op_byte, push_swap, push_dup, push_exchange, push_minimal_u256, push_minimal_u64, push_minimal_u32, push_data, push_reference, has_bad_depth, has_bad_word, exchange_ops, minimal_push, added, bytes_of}
 use Rattle.evm.specs.Opcodes as evm
 use Rattle.rust_model.specs.Run.{Run, done, and_then, Build, len_idx, pushed}

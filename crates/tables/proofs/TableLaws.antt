@@ -12,7 +12,6 @@ use lib.ListN.{length, replicate, length-replicate}
 use borrow.Author.Tests.{eqb-true, eqb-false, ne_eqb, not-true}
 use Rattle.slices.proofs.First.{NoneBefore}
 use Rattle.slices.proofs.Tests.{or-false}
-use Rattle.units.specs.Reference as width
 use Rattle.units.specs.Reply.{Reply, accepted, refused}
 use Rattle.records.specs.Store.{Store}
 use Rattle.records.specs.Sections.{Section, mark, ops, bytes, reference, decode}

@@ -1,6 +1,5 @@
 -- `assemble` is the definition: the settling, then 13, then the code; and it keeps demand 3.
 -- Assumes nothing.
-use borrow.Author.Rules.{rules}
 use mathlib.Core.Path.{sym, ◌∙◌, ap}
 use Prim.Native.Nat.{ℕ}
 use lib.ListN.{length, replicate}

@@ -1,6 +1,5 @@
 -- `write` is the definition: the tests of store and table, then 13, then the code.
 -- Assumes nothing.
-use borrow.Author.Rules.{rules}
 use mathlib.Core.Path.{sym, ◌∙◌}
 use Rattle.records.specs.Store.{Store, store_of, words_per_section}
 use Rattle.assembler.proofs.WriteLaws.{AcceptedFacts}

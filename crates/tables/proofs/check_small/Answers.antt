@@ -2,7 +2,6 @@
 -- Assumes nothing.
 use native.Mathlib.Omega.{arith}
 use mathlib.Core.Logic.{inl}
-use borrow.Author.Rules.{rules}
 use Rattle.tables.proofs.MarkMaps.{made_length, made_empty}
 use Rattle.tables.proofs.check_small.Goals as goal
 

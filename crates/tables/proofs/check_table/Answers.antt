@@ -3,7 +3,6 @@
 use mathlib.Core.Path.{◌≡◌, sym, ◌∙◌, subst}
 use mathlib.Core.List.{List}
 use Prim.Native.Nat.{ℕ}
-use borrow.Author.Rules.{rules}
 use Rattle.units.specs.Reply.{Reply}
 use Rattle.records.specs.Store.{Store, store_of, words_per_section}
 use Rattle.records.specs.Damage.{whole_soundness}

@@ -1,12 +1,9 @@
 -- The invariant: with the code from section i on still to be written, the result is as it is to be. The measure is the sections left.
 -- Assumes nothing.
-use borrow.Author.Rules.{rules}
 use native.Mathlib.Omega.{arith}
-use Prim.Native.Nat.{◌-◌}
 use mathlib.Core.Path.{sym, subst}
-use Rattle.records.specs.Store.{store_of, words_per_section}
 use Rattle.assembler.specs.Writing.{Writable}
-use Rattle.assembler.proofs.Writes.{Writing, writing_start, writing_fits, writing_next, writing_done}
+use Rattle.assembler.proofs.Writes.{writing_start, writing_fits, writing_next, writing_done}
 use Rattle.assembler.proofs.emission.write_code.Goals as goal
 
 pub loop-i-init : goal.loop-i-init

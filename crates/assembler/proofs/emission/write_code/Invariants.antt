@@ -1,12 +1,8 @@
 -- The invariant: with the code from section i on still to be written, the result is as it is to be. The measure is the sections left.
 -- Assumes nothing.
-use borrow.Author.Rules.{rules}
-use native.Mathlib.Omega.{arith}
 use Prim.Native.Nat.{◌-◌}
-use mathlib.Core.Path.{sym, subst}
 use Rattle.records.specs.Store.{store_of, words_per_section}
-use Rattle.assembler.specs.Writing.{Writable}
-use Rattle.assembler.proofs.Writes.{Writing, writing_start, writing_fits, writing_next, writing_done}
+use Rattle.assembler.proofs.Writes.{Writing}
 use Rattle.assembler.proofs.emission.write_code.Given as goal
 
 abbrev pub invariant-loop-i : goal.invariant-loop-i

@@ -1,6 +1,5 @@
 -- `write_opcode` writes the definition's one byte, or none.
 -- Assumes nothing.
-use borrow.Author.Rules.{rules}
 use Rattle.assembler.proofs.Writes.{opcode_pushed, opcode_raw}
 use Rattle.assembler.proofs.emission.write_opcode.Goals as goal
 

@@ -1,6 +1,5 @@
 -- `write_reference` is the definition: 5f alone, or the opcode and the value one after the other.
 -- Assumes nothing.
-use borrow.Author.Rules.{rules}
 use native.Mathlib.Omega.{arith}
 use mathlib.Core.Path.{◌≡◌, sym, ◌∙◌, ap₂}
 use Prim.Native.Nat.{◌+◌, ◌%◌, ◌≤◌}

@@ -1,6 +1,5 @@
 -- `write_section` writes the bytes of each kind of section.
 -- Assumes nothing.
-use borrow.Author.Rules.{rules}
 use mathlib.Core.Path.{sym}
 use Rattle.assembler.proofs.SectionBytes.{bytes_mark, bytes_span, bytes_reference}
 use Rattle.assembler.proofs.Writes.{wrote_none, wrote_is, fits_is}

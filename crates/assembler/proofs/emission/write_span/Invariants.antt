@@ -1,15 +1,10 @@
 -- The invariant: with the span's bytes from i on still to be written at `next`, the result is as it is to be. The measure is the bytes left.
 -- Assumes nothing.
-use borrow.Author.Rules.{rules}
-use Prim.Native.Nat.{ℕ, ◌+◌, ◌-◌, ◌≤◌, ◌<◌}
-use native.Mathlib.Omega.{arith}
-use mathlib.Core.Path.{◌≡◌, refl, sym, ◌∙◌, ap}
-use mathlib.Core.List.{[]}
-use lib.ListN.{length, length-set}
-use lib.Seq.{slice, slice_empty, length-slice}
+use Prim.Native.Nat.{◌+◌, ◌-◌, ◌≤◌}
+use mathlib.Core.Path.{◌≡◌}
+use lib.ListN.{length}
+use lib.Seq.{slice}
 use Rattle.slices.specs.Over.{over}
-use Rattle.slices.proofs.Over.{over_nothing}
-use Rattle.assembler.proofs.Writes.{span_step}
 use Rattle.assembler.proofs.emission.write_span.Given as goal
 
 abbrev pub invariant-loop-i : goal.invariant-loop-i

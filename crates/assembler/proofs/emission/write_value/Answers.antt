@@ -1,6 +1,5 @@
 -- `write_value` picks by the count.
 -- Assumes nothing.
-use borrow.Author.Rules.{rules}
 use native.Mathlib.Omega.{arith}
 use Rattle.assembler.proofs.Writes.{digits_none}
 use Rattle.assembler.proofs.emission.write_value.Goals as goal

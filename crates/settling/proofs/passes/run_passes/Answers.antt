@@ -1,23 +1,20 @@
 -- The outer invariant: the passes that are left, from the table as it is, come to the whole settling. The inner one: what remains of the walk comes
 -- to the whole pass from the table that the pass started with, and its sum is in bounds. The measures are what is left. Assumes nothing.
-use Prim.Native.Nat.{ℕ, ◌+◌, ◌-◌, ◌≤◌, ◌<◌}
+use Prim.Native.Nat.{ℕ, ◌+◌, ◌≤◌}
 use native.Mathlib.Omega.{arith}
 use mathlib.Core.Path.{◌≡◌, refl, sym, ap, ◌∙◌, subst}
 use mathlib.Core.Bool.{Bool, ◌||◌}
 use mathlib.Core.List.{List}
-use lib.ListN.{length, drop, replicate, length-set}
-use borrow.Author.Rules.{rules}
-use borrow.Author.Tests.{not-true, not-false}
+use lib.ListN.{length, replicate, length-set}
 use Rattle.units.specs.Replies.{max_passes}
-use Rattle.units.specs.declared.reply.Refusal.{Refusal}
 use Rattle.records.specs.Store.{store_of, words_per_section}
 use Rattle.records.specs.Sections.{Section}
-use Rattle.layout.specs.Passes.{Settling, walk_from, pass, passes}
+use Rattle.layout.specs.Passes.{Settling, passes}
 use Rattle.settling.specs.SectionWalk.{sections_of, MarksIn, passes_reply, passes_table}
 use Rattle.settling.specs.declared.Settled.TheVariants.{Refused}
 use Rattle.settling.proofs.SectionWords.{as_mark, not_mark, ordered, size_words_lem}
-use Rattle.settling.proofs.Sections.{decode_count, words_fit_lem, Turn, turn, turn_in, Room, room_mark, room_size, room_small}
-use Rattle.settling.proofs.Turns.{Left, pass_start, pass_next, pass_at, pass_past, pass_left, settles-narrow, settles-calm, settles_on, settles_out}
+use Rattle.settling.proofs.Sections.{decode_count, words_fit_lem, Turn, turn, turn_in, room_mark, room_size, room_small}
+use Rattle.settling.proofs.Turns.{pass_start, pass_next, pass_at, pass_past, pass_left, settles-narrow, settles-calm, settles_on, settles_out}
 use Rattle.settling.proofs.passes.run_passes.Goals as goal
 use Rattle.settling.proofs.passes.run_passes.Goals.{then-section-eq-MARK, else-section-eq-MARK+in-Bytes, else-passes-test, then-passes-test+then-loop-i-test+else-section-eq-MARK+in_default}
 use Rattle.settling.proofs.passes.run_passes.Goals.{After-loop-i, After-section_words-section, At-loop-i, At-passes, Left-passes, Start}

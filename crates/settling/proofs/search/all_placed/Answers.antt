@@ -1,13 +1,9 @@
 -- The invariant: no entry before m is 0. The measure is what is left.
 -- Assumes nothing.
-use Prim.Native.Nat.{◌-◌, ◌≤◌}
 use native.Mathlib.Omega.{arith}
-use lib.ListN.{length}
-use borrow.Author.Rules.{rules}
 use borrow.Author.Tests.{eq-eqb, ne_eqb, lt-ltb, le-ltb}
-use Rattle.slices.proofs.First.{NoneBefore, search_start, search_next, search_hit, search_done}
+use Rattle.slices.proofs.First.{search_start, search_next, search_hit, search_done}
 use Rattle.settling.specs.SectionWalk.{all_placed}
-use Rattle.settling.proofs.FirstPlacings.{zero_at}
 use Rattle.settling.proofs.search.all_placed.Goals as goal
 
 pub loop-m-init : goal.loop-m-init

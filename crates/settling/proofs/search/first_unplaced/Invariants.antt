@@ -1,17 +1,9 @@
 -- Where all marks are placed, no reference is to an unplaced one. Else the invariant: no section before i is one. The measure is what is left.
 -- Assumes nothing.
 use Prim.Native.Nat.{◌-◌, ◌≤◌}
-use native.Mathlib.Omega.{arith}
-use mathlib.Core.Path.{◌≡◌, refl, sym, ◌∙◌}
-use mathlib.Core.List.{List}
-use borrow.Author.Rules.{rules}
-use Rattle.records.specs.Store.{store_of, words_per_section}
-use Rattle.records.specs.Sections.{Section}
-use Rattle.slices.proofs.First.{NoneBefore, search_start, search_next, search_hit, search_done}
-use Rattle.layout.specs.Conditions.{unplaced_at, first_unplaced}
+use Rattle.slices.proofs.First.{NoneBefore}
+use Rattle.layout.specs.Conditions.{unplaced_at}
 use Rattle.settling.specs.SectionWalk.{sections_of}
-use Rattle.settling.proofs.Sections.{decode_count, words_fit_lem, Turn, turn, turn_in}
-use Rattle.settling.proofs.FirstPlacings.{unplaced_test, all_placed_lem}
 use Rattle.settling.proofs.search.first_unplaced.Given as goal
 
 abbrev pub invariant-loop-i : goal.invariant-loop-i

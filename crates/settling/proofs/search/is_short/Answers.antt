@@ -3,7 +3,6 @@
 use Prim.Native.Nat.{◌<◌}
 use native.Mathlib.Omega.{arith}
 use mathlib.Core.Path.{sym, ◌∙◌}
-use borrow.Author.Rules.{rules}
 use borrow.Author.Tests.{leb-true, leb-false}
 use Rattle.records.specs.Record.{direct_kind}
 use Rattle.settling.proofs.SectionWords.{short_mark, short_span, short_first, short_direct, short_second}

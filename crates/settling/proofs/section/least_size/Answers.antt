@@ -1,7 +1,6 @@
 -- `least_size` is the definition: a span's length, or the least size of the form.
 -- Assumes nothing.
 use mathlib.Core.Path.{ap, ◌∙◌}
-use borrow.Author.Rules.{rules}
 use borrow.Author.Tests.{lt-ltb, le-ltb}
 use Rattle.units.specs.Form.{least_by_form}
 use Rattle.settling.specs.SectionWalk.{least_words}

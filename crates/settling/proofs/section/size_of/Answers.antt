@@ -1,7 +1,6 @@
 -- `size_of` is the definition: a span's length, or the size of the form for the value.
 -- Assumes nothing.
 use mathlib.Core.Path.{ap₂, ◌∙◌}
-use borrow.Author.Rules.{rules}
 use borrow.Author.Tests.{lt-ltb, le-ltb}
 use Rattle.units.specs.Form.{size_by_form}
 use Rattle.settling.specs.SectionWalk.{size_words}

@@ -1,6 +1,5 @@
 -- `earlier` is the definition.
 -- Assumes nothing.
-use borrow.Author.Tests.{not-true, not-false}
 use Rattle.settling.proofs.StartTable.{earlier_not, earlier_so, earlier_later}
 use Rattle.settling.proofs.table.earlier.Goals as goal
 

@@ -1,10 +1,8 @@
 -- The invariant: the entries before m are less 1, the others as they were. The measure is what is left.
 -- Assumes nothing.
-use borrow.Author.Rules.{rules}
 use native.Mathlib.Omega.{arith}
-use Prim.Native.Nat.{◌-◌, ◌≤◌}
-use lib.ListN.{length, length-set}
-use Rattle.settling.proofs.StartTable.{LessTo, less_start, less_next, less_done}
+use lib.ListN.{length-set}
+use Rattle.settling.proofs.StartTable.{less_start, less_next, less_done}
 use Rattle.settling.proofs.table.less_one.Goals as goal
 
 pub loop-m-init : goal.loop-m-init

@@ -1,7 +1,6 @@
 -- `place_mark` is the definition: the entry was 0, or it was not.
 -- Assumes nothing.
 use Rattle.settling.proofs.StartTable.{placed_set, placed_kept}
-use borrow.Author.Rules.{rules}
 use Rattle.settling.proofs.table.place_mark.Goals as goal
 
 pub returns-then-was-eq0 : goal.returns-then-was-eq0

@@ -4,7 +4,6 @@ use mathlib.Core.Path.{ap}
 use Prim.Native.Nat.{ℕ, ◌/◌}
 use lib.Bits.{bit_or}
 use lib.ListN.{get_or, set}
-use borrow.Author.Rules.{rules}
 use Rattle.tables.specs.MarkMap.{with_mark}
 use Rattle.tables.proofs.MarkMaps.{shifted}
 use Rattle.tables.proofs.map.put_in_map.Goals as goal

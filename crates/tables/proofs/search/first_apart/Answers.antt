@@ -1,6 +1,6 @@
 -- The invariant: `run` is the last section with bytes before i, 0 if there is none, the map has the marks placed before it and its length, and
 -- no section before i is placed apart. The measure is what is left. Assumes nothing.
-use Prim.Native.Nat.{◌*◌, ◌-◌, ◌≤◌}
+use Prim.Native.Nat.{◌*◌}
 use native.Mathlib.Omega.{arith}
 use mathlib.Core.Path.{◌≡◌, refl, sym, ap, ◌∙◌}
 use mathlib.Core.Bool.{Bool}
@@ -17,7 +17,7 @@ use Rattle.settling.proofs.Sections.{decode_count, words_fit_lem, Turn, turn}
 use Rattle.settling.proofs.FirstPlacings.{apart_none}
 use Rattle.tables.specs.MarkMap.{in_map, Covers}
 use Rattle.tables.proofs.Turns.{covers_same}
-use Rattle.tables.proofs.Searches.{turn_covered, bytes_words_lem, Searched, searched_start, apart_by, next_empty, next_bytes}
+use Rattle.tables.proofs.Searches.{turn_covered, bytes_words_lem, searched_start, apart_by, next_empty, next_bytes}
 use Rattle.tables.proofs.search.first_apart.Goals as goal
 use Rattle.tables.proofs.search.first_apart.Goals.{then-section-eq-MARK+else-in_map, else-section-eq-MARK+then-has_bytes, else-section-eq-MARK+else-has_bytes}
 use Rattle.tables.proofs.search.first_apart.Goals.{After-section_words-section, At-loop-i, Start}
