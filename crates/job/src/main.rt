@@ -9,6 +9,9 @@ ghost use Rattle.job_steps.specs.JobFormat.{max_job};
 use job_steps::MAX_JOB;
 use job_text::{TEXT_BYTES, write_text};
 use jobs::JobRun;
+use reads::read_full;
+use std::io;
+use std::io::{Print, Stdout};
 
 // Room for one byte more than the longest job, so that a longer one is seen.
 fn input_buffer() -> [u8; MAX_JOB + 1]
@@ -25,18 +28,18 @@ fn text_buffer() -> [u8; TEXT_BYTES]
 }
 
 // A job's text; with room for the longest one no buffer is too short (`prints`, job_text JobAlone).
-fn print_job(job: &[u8], text: &mut [u8])
+fn print_job(out: Stdout, job: &[u8], text: &mut [u8]) -> io::Result<()>
     requires { 131078 ≤ length text.old }
 {
     let JobRun::Ran { reply, text_length } = write_text(job, text) else {
-        return;
+        return Ok(());
     };
-    io::write_all(libc::STDOUT_FILENO, &text[..text_length]);
+    out.write_all(&text[..text_length])
 }
 
-fn main() {
+fn main(rt: HostRuntime) -> io::Result<()> {
     let mut input = input_buffer();
-    let n = io::read_full(libc::STDIN_FILENO, &mut input);
+    let n = read_full(&mut rt.stdin(), &mut input)?;
     let mut text = text_buffer();
-    print_job(&input[..n], &mut text);
+    print_job(rt.stdout(), &input[..n], &mut text)
 }

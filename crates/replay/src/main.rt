@@ -13,10 +13,13 @@ mod script;
 ghost use Rattle.std.specs.Prelude.{length};
 ghost use Rattle.replay.specs.Header.{Lendable};
 
+use reads::read_full;
 use records::Assembler;
 use script::{
     HEADER_BYTES, Header, HeaderRead, MAX_RESULT, MAX_SCRIPT, MAX_WORDS, STEP_BYTES, Step,
 };
+use std::io;
+use std::io::{Print, Stdout};
 
 // Room for the longest listing, and for one byte more than the longest script, so that a longer one is seen.
 fn text_buffer() -> [u8; MAX_SCRIPT + 1] {
@@ -35,6 +38,7 @@ fn word_buffer() -> [u32; MAX_WORDS] {
 
 // One step: the store after it. The slices change as its call says.
 fn take_step(
+    out: Stdout,
     store: Assembler,
     step: Step,
     pool: &[u8],
@@ -43,27 +47,28 @@ fn take_step(
     table: &mut [u32],
     res: &mut [u8],
     text: &mut [u8],
-) -> Assembler {
+) -> io::Result<Assembler> {
     let kind = step.kind;
     match kind {
-        0 => memory::start_anew(bytes, words, table, res, text),
-        1..=12 => building::build(store, step, pool, bytes, words),
-        13 => reading::scan(store, step.a, step.b, pool),
-        16..=19 => memory::set(store, step, bytes, words, table),
-        20 => assembling::assemble(store, step.a, bytes, words, table, res),
-        21 => reading::list(store, bytes, words, text),
-        22 => reading::land(store, step.a, step.b, res),
-        23 => assembling::settle(store, bytes, words, table),
-        24..=28 => memory::show(store, step, bytes, words, table, res, text),
-        29 => assembling::write(store, step.a, bytes, words, table, res),
-        30 => job_step::run(store, step.a, step.b, pool),
-        32..=44 => building::delta(store, step, bytes, words),
-        _ => printing::bad_step(store),
+        0 => memory::start_anew(out, bytes, words, table, res, text),
+        1..=12 => building::build(out, store, step, pool, bytes, words),
+        13 => reading::scan(out, store, step.a, step.b, pool),
+        16..=19 => memory::set(out, store, step, bytes, words, table),
+        20 => assembling::assemble(out, store, step.a, bytes, words, table, res),
+        21 => reading::list(out, store, bytes, words, text),
+        22 => reading::land(out, store, step.a, step.b, res),
+        23 => assembling::settle(out, store, bytes, words, table),
+        24..=28 => memory::show(out, store, step, bytes, words, table, res, text),
+        29 => assembling::write(out, store, step.a, bytes, words, table, res),
+        30 => job_step::run(out, store, step.a, step.b, pool),
+        32..=44 => building::delta(out, store, step, bytes, words),
+        _ => printing::bad_step(out, store),
     }
 }
 
 // All steps, one after another.
 fn run_steps(
+    out: Stdout,
     pool: &[u8],
     steps: &[u8],
     bytes: &mut [u8],
@@ -71,18 +76,19 @@ fn run_steps(
     table: &mut [u32],
     res: &mut [u8],
     text: &mut [u8],
-) {
+) -> io::Result<()> {
     let mut store = memory::filled(bytes, words, table, res, text);
     let mut at = 0;
     while STEP_BYTES <= steps.len() - at {
         let step = script::step_at(steps, at);
         at += STEP_BYTES;
-        store = take_step(store, step, pool, bytes, words, table, res, text);
+        store = take_step(out, store, step, pool, bytes, words, table, res, text)?;
     }
+    Ok(())
 }
 
 // A script with a good header.
-fn run_good(script: &[u8], header: Header)
+fn run_good(out: Stdout, script: &[u8], header: Header) -> io::Result<()>
     requires { Lendable (length script.now) header }
 {
     let byte_count = header.bytes;
@@ -97,6 +103,7 @@ fn run_good(script: &[u8], header: Header)
     let mut result = byte_buffer();
     let mut text = text_buffer();
     run_steps(
+        out,
         &script[HEADER_BYTES..steps],
         &script[steps..],
         &mut bytes[..byte_count],
@@ -104,20 +111,19 @@ fn run_good(script: &[u8], header: Header)
         &mut table[..table_count],
         &mut result[..result_count],
         &mut text[..text_count],
-    );
+    )
 }
 
 // A whole script.
-fn run(script: &[u8]) {
+fn run(out: Stdout, script: &[u8]) -> io::Result<()> {
     let HeaderRead::Good(header) = script::read_header(script) else {
-        printing::say(b"bad script\n");
-        return;
+        return println!(out; "bad script");
     };
-    run_good(script, header);
+    run_good(out, script, header)
 }
 
-fn main() {
+fn main(rt: HostRuntime) -> io::Result<()> {
     let mut input = text_buffer();
-    let n = io::read_full(libc::STDIN_FILENO, &mut input);
-    run(&input[..n]);
+    let n = read_full(&mut rt.stdin(), &mut input)?;
+    run(rt.stdout(), &input[..n])
 }

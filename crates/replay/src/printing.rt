@@ -1,127 +1,103 @@
-// What is printed: one line for each step, on standard output.
+// What is printed: one line for each step, on standard output. Each function answers the error of a write that failed.
 use assembler::Assembled;
 use evm::landing::Landing;
-use libc::STDOUT_FILENO;
 use listing::Listed;
 use minimal::Scan;
 use records::Assembler;
 use settling::Settled;
+use std::io;
+use std::io::{Print, Stdout};
 use store::Built;
 use units::Refusal;
 
-pub(crate) fn say(text: &[u8]) {
-    io::write_all(STDOUT_FILENO, text);
-}
-
-fn say_number(n: u32) {
-    io::print_decimal(STDOUT_FILENO, n as u64);
+pub(crate) fn say(out: Stdout, text: &[u8]) -> io::Result<()> {
+    out.write_all(text)
 }
 
 // A step that changes nothing: the store as it was.
-pub(crate) fn bad_step(store: Assembler) -> Assembler {
-    say(b"bad step\n");
-    store
+pub(crate) fn bad_step(out: Stdout, store: Assembler) -> io::Result<Assembler> {
+    println!(out; "bad step")?;
+    Ok(store)
 }
 
-fn say_stored(store: Assembler) {
-    say(b"stored ");
-    say_number(store.bytes);
-    say(b" ");
-    say_number(store.sections);
-    say(b"\n");
+fn say_stored(out: Stdout, store: Assembler) -> io::Result<()> {
+    println!(out; "stored {} {}", store.bytes, store.sections)
 }
 
-fn say_refused(refusal: Refusal) {
-    say(b"refused ");
-    say_number(refusal.number());
-    say(b" at ");
-    say_number(refusal.section());
-    say(b" passes ");
-    say_number(refusal.passes());
-    say(b"\n");
+fn say_refused(out: Stdout, refusal: Refusal) -> io::Result<()> {
+    let number = refusal.number();
+    let section = refusal.section();
+    let passes = refusal.passes();
+    println!(out; "refused {number} at {section} passes {passes}")
 }
 
 // The line of a building call: the store after it, which is the old one where it was refused.
-pub(crate) fn say_built(old: Assembler, built: Built) -> Assembler {
+pub(crate) fn say_built(out: Stdout, old: Assembler, built: Built) -> io::Result<Assembler> {
     match built {
         Built::Stored(store) => {
-            say_stored(store);
-            store
+            say_stored(out, store)?;
+            Ok(store)
         }
         Built::Refused(refusal) => {
-            say_refused(refusal);
-            old
+            say_refused(out, refusal)?;
+            Ok(old)
         }
     }
 }
 
-fn say_laid(length: u32, passes: u32) {
-    say(b"length ");
-    say_number(length);
-    say(b" passes ");
-    say_number(passes);
-    say(b"\n");
+fn say_laid(out: Stdout, length: u32, passes: u32) -> io::Result<()> {
+    println!(out; "length {length} passes {passes}")
 }
 
 // The line of an assembly call, and of a write.
-pub(crate) fn say_assembled(assembled: Assembled) {
+pub(crate) fn say_assembled(out: Stdout, assembled: Assembled) -> io::Result<()> {
     match assembled {
-        Assembled::Written { length, passes } => say_laid(length, passes),
-        Assembled::Refused(refusal) => say_refused(refusal),
+        Assembled::Written { length, passes } => say_laid(out, length, passes),
+        Assembled::Refused(refusal) => say_refused(out, refusal),
     }
 }
 
 // The line of a settling call.
-pub(crate) fn say_settled(settled: Settled) {
+pub(crate) fn say_settled(out: Stdout, settled: Settled) -> io::Result<()> {
     match settled {
-        Settled::LaidOut { length, passes } => say_laid(length, passes),
-        Settled::Refused(refusal) => say_refused(refusal),
+        Settled::LaidOut { length, passes } => say_laid(out, length, passes),
+        Settled::Refused(refusal) => say_refused(out, refusal),
     }
 }
 
 // The line of a listing call.
-pub(crate) fn say_listed(listed: Listed) {
+pub(crate) fn say_listed(out: Stdout, listed: Listed) -> io::Result<()> {
     match listed {
-        Listed::Text(length) => {
-            say(b"listing ");
-            io::print_decimal(STDOUT_FILENO, length as u64);
-            say(b"\n");
-        }
-        Listed::Refused(refusal) => say_refused(refusal),
+        Listed::Text(length) => println!(out; "listing {length}"),
+        Listed::Refused(refusal) => say_refused(out, refusal),
     }
 }
 
 // The line of a landing check.
-pub(crate) fn say_landing(landing: Landing) {
+pub(crate) fn say_landing(out: Stdout, landing: Landing) -> io::Result<()> {
     match landing {
-        Landing::Yes => say(b"yes\n"),
-        Landing::No => say(b"no\n"),
+        Landing::Yes => println!(out; "yes"),
+        Landing::No => println!(out; "no"),
     }
 }
 
 // The line of a scan.
-pub(crate) fn say_scan(scan: Scan) {
-    say(b"zeros ");
-    io::print_decimal(STDOUT_FILENO, scan.zeros as u64);
-    say(b" looked ");
-    io::print_decimal(STDOUT_FILENO, scan.looked as u64);
-    say(b"\n");
+pub(crate) fn say_scan(out: Stdout, scan: Scan) -> io::Result<()> {
+    println!(out; "zeros {} looked {}", scan.zeros, scan.looked)
 }
 
 // Two hex digits of each byte.
-pub(crate) fn say_bytes(part: &[u8]) {
-    let mut i = 0;
-    while i < part.len() {
-        io::print_hex(STDOUT_FILENO, part[i] as u64, 2);
-        i += 1;
+pub(crate) fn say_bytes(out: Stdout, part: &[u8]) -> io::Result<()> {
+    for byte in part {
+        print!(out; "{byte:02x}")?;
     }
+    Ok(())
 }
 
 // Eight hex digits of each word.
-pub(crate) fn say_words(part: &[u32]) {
-    let mut i = 0;
-    while i < part.len() {
-        io::print_hex(STDOUT_FILENO, part[i] as u64, 8);
-        i += 1;
+pub(crate) fn say_words(out: Stdout, part: &[u32]) -> io::Result<()> {
+    for word in part {
+        print!(out; "{word:08x}")?;
     }
+    Ok(())
 }

@@ -4,6 +4,8 @@
 
 use listing::Listed;
 use records::Assembler;
+use std::io;
+use std::io::{Print, Stdout};
 use store::Built;
 use units::{AsmReference, MarkId, MarkReference, MarkSpan, RefSize, SetSize};
 
@@ -83,17 +85,23 @@ fn line_12(bytes: &mut [u8], words: &mut [u32]) -> Assembler {
 }
 
 // The store's listing; a refused one prints nothing.
-fn print_listing(store: Assembler, bytes: &[u8], words: &[u32], text: &mut [u8]) {
+fn print_listing(
+    out: Stdout,
+    store: Assembler,
+    bytes: &[u8],
+    words: &[u32],
+    text: &mut [u8],
+) -> io::Result<()> {
     let Listed::Text(length) = listing::write_asm(store, bytes, words, text) else {
-        return;
+        return Ok(());
     };
-    io::write_all(libc::STDOUT_FILENO, &text[..length]);
+    out.write_all(&text[..length])
 }
 
-fn main() {
+fn main(rt: HostRuntime) -> io::Result<()> {
     let mut bytes = [0u8; BYTES];
     let mut words = [0u32; WORDS];
     let mut text = [0u8; TEXT];
     let store = line_12(&mut bytes, &mut words);
-    print_listing(store, &bytes, &words, &mut text);
+    print_listing(rt.stdout(), store, &bytes, &words, &mut text)
 }
