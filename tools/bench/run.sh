@@ -13,8 +13,8 @@ mkdir -p "$out"
 if [ -n "${ARCHIVE:-}" ]; then
     cp "$ARCHIVE" "$out/libsadrokki.a"
 else
-    (cd "$root" && rt staticlib sadrokki)
-    cp "$root/target/staticlib/libsadrokki.a" "$out/libsadrokki.a"
+    (cd "$root/crates/sadrokki" && rt lib)
+    cp "$root/crates/sadrokki/out/libsadrokki.a" "$out/libsadrokki.a"
 fi
 
 flags="--edition 2024 -C opt-level=3 -C debug-assertions=off -C overflow-checks=off -L $out"
