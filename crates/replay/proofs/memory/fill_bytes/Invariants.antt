@@ -1,5 +1,5 @@
 -- `fill_bytes` is safe and ends. The invariant: the slice is as long as it was. The measure is what is left of it.
-
+-- Assumes nothing.
 use mathlib.Core.Path.{◌≡◌}
 use Prim.Native.Nat.{◌≤◌, ◌-◌}
 use lib.ListN.{length}
