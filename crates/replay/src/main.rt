@@ -3,7 +3,7 @@
 #![tactic(auto)]
 
 mod assembling;
-mod building;
+mod build_step;
 mod job_step;
 mod memory;
 mod printing;
@@ -51,7 +51,7 @@ fn take_step(
     let kind = step.kind;
     match kind {
         0 => memory::start_anew(out, bytes, words, table, res, text),
-        1..=12 => building::build(out, store, step, pool, bytes, words),
+        1..=12 => build_step::build(out, store, step, pool, bytes, words),
         13 => reading::scan(out, store, step.a, step.b, pool),
         16..=19 => memory::set(out, store, step, bytes, words, table),
         20 => assembling::assemble(out, store, step.a, bytes, words, table, res),
@@ -61,7 +61,7 @@ fn take_step(
         24..=28 => memory::show(out, store, step, bytes, words, table, res, text),
         29 => assembling::write(out, store, step.a, bytes, words, table, res),
         30 => job_step::run(out, store, step.a, step.b, pool),
-        32..=44 => building::delta(out, store, step, bytes, words),
+        32..=44 => build_step::delta(out, store, step, bytes, words),
         _ => printing::bad_step(out, store),
     }
 }
