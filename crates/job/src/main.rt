@@ -1,6 +1,6 @@
 // Document 02, request 2: reads a job from standard input and prints its text, on slices as long as the request says. The exit code is 0
-// for every input. It prints what `write_text` writes, whose contract says which bytes those are. That the input is what was read, and that
-// the text arrives, isn't proved; every function here is proved safe.
+// for every input, unless a read or a write fails. It prints what `write_text` writes, whose contract says which bytes those are. That
+// the input is what was read, and that the text arrives, isn't proved; every function here is proved safe.
 #![tactic(auto)]
 
 ghost use Rattle.std.specs.Prelude.{◌≡◌, ◌+◌, ◌≤◌, length};
