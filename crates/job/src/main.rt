@@ -1,17 +1,19 @@
 // Document 02, request 2: reads a job from standard input and prints its text, on slices as long as the request says. The exit code is 0
-// for every input, unless a read or a write fails. It prints what `write_text` writes, whose contract says which bytes those are. That
-// the input is what was read, and that the text arrives, isn't proved; every function here is proved safe.
+// for every input, unless a read or a write fails. `run` prints `printed` of all the input, at every reader and writer whose bytes are
+// known: what the system's streams give and take is no part of a proof.
 #![tactic(auto)]
 
-ghost use Rattle.std.specs.Prelude.{◌≡◌, ◌+◌, ◌≤◌, length};
+ghost use Rattle.std.specs.Prelude.{◌≡◌, ◌+◌, ◌≤◌, IfSome, OnOk, length};
+ghost use Rattle.std.specs.Io.KnownBytes.{Appends};
 ghost use Rattle.job_steps.specs.JobFormat.{max_job};
+ghost use Rattle.job_text.specs.Printed.{printed};
 
 use job_steps::MAX_JOB;
 use job_text::{TEXT_BYTES, write_text};
 use jobs::JobRun;
 use reads::read_full;
 use std::io;
-use std::io::{Print, Stdout};
+use std::io::{Read, Write};
 
 // Room for one byte more than the longest job, so that a longer one is seen.
 fn input_buffer() -> [u8; MAX_JOB + 1]
@@ -27,9 +29,10 @@ fn text_buffer() -> [u8; TEXT_BYTES]
     [0u8; TEXT_BYTES]
 }
 
-// A job's text; with room for the longest one no buffer is too short (`prints`, job_text JobAlone).
-fn print_job(out: Stdout, job: &[u8], text: &mut [u8]) -> io::Result<()>
+// Writes a job's text; with room for the longest one no buffer is too short (`prints`, job_text JobAlone).
+fn print_job<W: Write>(out: &mut W, job: &[u8], text: &mut [u8]) -> io::Result<()>
     requires { 131078 ≤ length text.old }
+    ensures { OnOk result (Appends (W.contents out.old) (W.contents out.new) (printed job.now)) }
 {
     let JobRun::Ran { reply, text_length } = write_text(job, text) else {
         return Ok(());
@@ -37,9 +40,17 @@ fn print_job(out: Stdout, job: &[u8], text: &mut [u8]) -> io::Result<()>
     out.write_all(&text[..text_length])
 }
 
-fn main(rt: HostRuntime) -> io::Result<()> {
-    let mut input = input_buffer();
-    let n = read_full(&mut rt.stdin(), &mut input)?;
+// The text of the job that the whole input is. No more is read than shows that it is longer than any job.
+fn run<R: Read, W: Write>(input: &mut R, out: &mut W) -> io::Result<()>
+    ensures { OnOk result (IfSome (R.remaining input.old)
+        (λ bytes. Appends (W.contents out.old) (W.contents out.new) (printed bytes))) }
+{
+    let mut job = input_buffer();
+    let n = read_full(input, &mut job)?;
     let mut text = text_buffer();
-    print_job(rt.stdout(), &input[..n], &mut text)
+    print_job(out, &job[..n], &mut text)
+}
+
+fn main(rt: HostRuntime) -> io::Result<()> {
+    run(&mut rt.stdin(), &mut rt.stdout())
 }

@@ -1,0 +1,2 @@
+mod Input
+mod Text
