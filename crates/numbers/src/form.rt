@@ -15,6 +15,7 @@ pub enum Form {
 }
 
 // The form of a number.
+#[tactic(auto, using(crate::proofs::Forms::form_raw, crate::proofs::Forms::form_pushed, crate::proofs::Forms::form_between, crate::proofs::Forms::form_above))]
 pub fn form_of(form: u32) -> Form
     ensures { result ≡ form_of form }
 {

@@ -35,6 +35,7 @@ pub struct StoredSection {
 }
 
 // The section that three words stand for, or damaged: an unlisted kind or field, a mark number too large, a start past its end.
+#[tactic(auto, using(crate::proofs::Reading::section_mark, crate::proofs::Reading::section_ops, crate::proofs::Reading::section_data, crate::proofs::Reading::section_direct, crate::proofs::Reading::section_pushed_delta, crate::proofs::Reading::section_raw_delta, crate::proofs::Reading::section_unlisted))]
 pub fn read_section(words: StoredSection) -> SectionRead
     ensures { result ≡ read_section words }
 {
@@ -94,6 +95,7 @@ fn read_data(first: u32, second: u32) -> SectionRead
     }))
 }
 
+#[tactic(auto, using(crate::proofs::Reading::direct_large, crate::proofs::Reading::direct_raw, crate::proofs::Reading::direct_pushed, crate::proofs::Reading::direct_between, crate::proofs::Reading::direct_above))]
 fn read_direct(first: u32, second: u32) -> SectionRead
     ensures { result ≡ read_direct first second }
 {
@@ -193,6 +195,7 @@ pub fn write_words(words: &mut [u32], i: u32, kind: u32, first: u32, second: u32
 }
 
 // A reference's form, from its words: a direct one has it as a word, a delta in its kind. (Of other words, some number.)
+#[tactic(auto, unfolding(crate::specs::Record::form_of))]
 pub fn form_of(words: StoredSection) -> u32
     ensures { result ≡ form_of words }
 {

@@ -7,9 +7,9 @@ use mathlib.Core.Bool.{Bool, true, false, cond, not, ◌&&◌, true≢false, not
 use mathlib.Core.List.{List, [], ◌∷◌}
 use mathlib.Core.Logic.{◌⊎◌, inl, inr}
 use lib.Dec.{eqb, leb}
-use lib.ListN.{length, set, replicate, length-set, length-replicate, get_or-replicate}
+use lib.ListN.{length, set, replicate, length-set, length-replicate, get_or, get_or-replicate}
 use lib.Seq.{get_or-set_same, get_or-set_other}
-use borrow.Author.Tests.{eqb-true, eqb-false, eq-eqb, ne_eqb, leb-false, leb-true, not-true, not-false}
+use borrow.Author.Tests.{eqb-true, eqb-false, eq-eqb, ne_eqb, lt-ltb, le-ltb, leb-false, leb-true, not-true, not-false}
 use Rattle.units.specs.Reference.{least_size}
 use Rattle.units.specs.declared.MarkReference.{MarkReference}
 use Rattle.units.specs.declared.MarkReference.TheVariants.{Direct, Delta}
@@ -20,6 +20,7 @@ use Rattle.layout.specs.Conditions.{section_at, sum_of, Never, some_below, place
 use Rattle.layout.proofs.Least.{none_below, never_law}
 use Rattle.layout.proofs.Moves.{width_by}
 use Rattle.slices.proofs.Tests.{or-false}
+use Rattle.slices.proofs.First.{NoneBefore, search_hit, search_done}
 use Rattle.layout.proofs.Apart.{least_before, placed_law, ApartBySums, apart_sums}
 use Rattle.settling.specs.SectionWalk.{unplaced_words, place_mark, place_from, first_sums, all_placed}
 use Rattle.settling.proofs.SectionWords.{NotMark, unplaced_words_lem}
@@ -174,6 +175,20 @@ module _ (n : ℕ) (ss : List Section) (in_table : Never ss (short_at n ss)) whe
 -- a mark's entry is 0
 abbrev pub zero_at : List ℕ → ℕ → Bool
 zero_at table m = eqb (entry table m) 0
+
+-- where entry m is the first that is 0
+pub zero_found : (table : List ℕ) (m : ℕ) → NoneBefore (zero_at table) m → m < length table → get_or table m 0 ≡ 0 → false ≡ all_placed table
+unfolding all_placed
+zero_found table m none below is =
+    let first = search_hit (zero_at table) (length table) m none below (eq-eqb _ 0 is) in
+    rw (← first, lt-ltb _ _ below)
+
+-- where none is
+pub no_zero : (table : List ℕ) (m : ℕ) → NoneBefore (zero_at table) m → m ≤ length table → length table ≤ m → true ≡ all_placed table
+unfolding all_placed
+no_zero table m none within past =
+    let first = search_done (zero_at table) (length table) m none within past in
+    rw (← first, le-ltb _ _ past)
 
 module _ (n : ℕ) (ss : List Section) (table : List ℕ) (is : table ≡ first_sums n ss) (in_table : Never ss (short_at n ss)) where
   -- an entry of the table

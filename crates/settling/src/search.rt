@@ -53,6 +53,7 @@ fn is_unplaced(section: StoredSection, table: &[u32]) -> bool
 }
 
 // Every mark that the table has room for is placed.
+#[tactic(auto, using(crate::proofs::FirstPlacings::zero_found, crate::proofs::FirstPlacings::no_zero))]
 fn all_placed(table: &[u32]) -> bool
     ensures { result ≡ all_placed table.now }
 {

@@ -72,6 +72,7 @@ pub enum SizeFor {
 }
 
 // The least number of bytes that hold a value.
+#[tactic(auto, using(crate::proofs::Held::held_1, crate::proofs::Held::held_2, crate::proofs::Held::held_3, crate::proofs::Held::held_4))]
 pub fn bytes_to_hold(offset: u32) -> RefSize
     ensures { ref_size_bytes result ≡ held_bytes offset }
 {
