@@ -21,6 +21,7 @@ pub enum PushSize {
 }
 
 // PUSH1 to PUSH32 have their size; PUSH0 and every other byte is no push.
+#[tactic(auto, using(crate::proofs::Opcodes::push_sized, crate::proofs::Opcodes::push_below, crate::proofs::Opcodes::push_above))]
 pub fn push_size(opcode: u8) -> PushSize
     ensures { result ≡ op_push_size opcode }
 {

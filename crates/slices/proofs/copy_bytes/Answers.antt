@@ -13,9 +13,6 @@ use Rattle.slices.proofs.copy_bytes.Goals as goal
 pub loop-i-init : goal.loop-i-init
 loop-i-init c = (omega arith, paste-zero c.args.bytes.now c.args.at c.args.added.now)
 
-pub bounds-added-i : goal.bounds-added-i
-bounds-added-i c = omega arith
-
 pub overflow_add-bytes : goal.overflow_add-bytes
 overflow_add-bytes c = omega (arith, c.before.before.before.requires)
 
