@@ -3,8 +3,8 @@
 // known: what the system's streams give and take is no part of a proof.
 #![tactic(auto)]
 
-ghost use Rattle.std.specs.Prelude.{◌≡◌, ◌+◌, ◌≤◌, IfSome, OnOk, length};
-ghost use Rattle.std.specs.Io.KnownBytes.{Appends};
+ghost use Rattle.std.specs.Prelude.{◌≡◌, ◌+◌, ◌≤◌, ℕ, List, IfSome, OnErr, OnOk, length, take};
+ghost use Rattle.std.specs.Io.KnownBytes.{Appends, Consumes};
 ghost use Rattle.job_steps.specs.JobFormat.{max_job};
 ghost use Rattle.job_text.specs.Printed.{printed};
 
@@ -32,7 +32,10 @@ fn text_buffer() -> [u8; TEXT_BYTES]
 // Writes a job's text; with room for the longest one no buffer is too short (`prints`, job_text JobAlone).
 fn print_job<W: Write>(out: &mut W, job: &[u8], text: &mut [u8]) -> io::Result<()>
     requires { 131078 ≤ length text.old }
-    ensures { OnOk result (Appends (W.contents out.old) (W.contents out.new) (printed job.now)) }
+    ensures written { OnOk result (Appends (W.contents out.old) (W.contents out.new) (printed job.now)) }
+
+    // Also where a write fails, of which std doesn't say how much was taken.
+    ensures held { take (length (printed job.now)) text.new ≡ printed job.now }
 {
     let JobRun::Ran { reply, text_length } = write_text(job, text) else {
         return Ok(());
@@ -42,8 +45,11 @@ fn print_job<W: Write>(out: &mut W, job: &[u8], text: &mut [u8]) -> io::Result<(
 
 // The text of the job that the whole input is. No more is read than shows that it is longer than any job.
 fn run<R: Read, W: Write>(input: &mut R, out: &mut W) -> io::Result<()>
-    ensures { OnOk result (IfSome (R.remaining input.old)
+    ensures written { OnOk result (IfSome (R.remaining input.old)
         (λ bytes. Appends (W.contents out.old) (W.contents out.new) (printed bytes))) }
+
+    // Where a read or a write fails: what was read is what the input begins with.
+    ensures failed { OnErr result ((bytes : List ℕ) × Consumes (R.remaining input.old) (R.remaining input.new) bytes) }
 {
     let mut job = input_buffer();
     let n = read_full(input, &mut job)?;
