@@ -18,7 +18,7 @@ use Rattle.units.proofs.BigEndian.{pow256_mono}
 use Rattle.records.specs.Record.{set_size_of, read_mark, read_span, read_direct, read_delta, read_section}
 use Rattle.records.specs.Store.{Store, bad_counts}
 use Rattle.records.specs.Damage.{end_before, spans_end, breaks_rule, bad_count, broken_reply, whole_soundness}
-use Rattle.records.specs.declared.damage.Soundness.TheVariants.{Sound}
+use Rattle.records.specs.Damage.{Sound}
 use Rattle.records.specs.Sections.{Section, mark, bytes, reference, decode_at, decode_from, decode}
 use Rattle.slices.specs.First.{least_from}
 use Rattle.layout.specs.Layout.{Layout, total, in_all, GivesEnough}

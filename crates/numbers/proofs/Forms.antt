@@ -1,4 +1,5 @@
 -- Laws of forms. Assumes nothing.
+use Rattle.std.specs.Prelude.{Option}
 use Prim.Native.Nat.{ℕ, zero, suc, ◌+◌, ◌-◌, ◌%◌, ◌≤◌, ◌<◌}
 use native.Mathlib.Omega.{arith}
 use mathlib.Core.Path.{◌≡◌, refl, sym, ap}
@@ -6,7 +7,7 @@ use mathlib.Core.Bool.{Bool, true, false, ◌&&◌, ◌||◌, true≢false}
 use mathlib.Mathlib.Data.Bool.Basic.{or-eq-false-eq-eq-false-and-eq-false as or-false}
 use lib.Dec.{leb, ltb}
 use borrow.Author.Tests.{le-leb, lt-leb, leb-true, lt-ltb, le-ltb}
-use Rattle.units.specs.declared.SetSize.{SetSize}
+use Rattle.units.specs.declared.RefSize.{RefSize}
 use Rattle.units.specs.declared.MarkReference.{MarkReference}
 use Rattle.units.specs.Reference.{least_size, size_for, too_narrow, size}
 use Rattle.units.specs.Form.{size_number, pushed_number}
@@ -17,11 +18,11 @@ use Rattle.numbers.specs.Numbers.{names_nothing}
 use Rattle.numbers.specs.Forms.{form_of, direct, delta, formed, reference_number, reference_after, is_form, form_kind}
 
 module _ (n : ℕ) where
-  pub form_raw : (s : SetSize) → n < 5 → s ≡ set_size_of n → Names s false ≡ form_of n
+  pub form_raw : (s : Option RefSize) → n < 5 → s ≡ set_size_of n → Names s false ≡ form_of n
   unfolding form_of
   form_raw s l e = rw (e, le-leb n 4 (omega arith))
 
-  pub form_pushed : (s : SetSize) → 8 ≤ n → n < 13 → s ≡ set_size_of (n - 8) → Names s true ≡ form_of n
+  pub form_pushed : (s : Option RefSize) → 8 ≤ n → n < 13 → s ≡ set_size_of (n - 8) → Names s true ≡ form_of n
   unfolding form_of
   form_pushed s l h e = rw (e, lt-leb n 4 (omega arith), le-leb 8 n l, le-leb n 12 (omega arith))
 
@@ -34,7 +35,7 @@ module _ (n : ℕ) where
   form_above l = rw (lt-leb n 4 (omega arith), le-leb 8 n (omega arith), lt-leb n 12 (omega arith))
 
 -- sizes are a matter of the form alone
-pub size_any_mark : (m : MarkReference) (s : SetSize) (p : Bool) (v : ℕ)
+pub size_any_mark : (m : MarkReference) (s : Option RefSize) (p : Bool) (v : ℕ)
     → (size_for (formed m s p) v ≡ size_for (formed (direct 0) s p) v) × (least_size (formed m s p) ≡ least_size (formed (direct 0) s p))
 unfolding size_for too_narrow size least_size
 size_any_mark m s p v = (refl, refl)

@@ -1,11 +1,9 @@
 -- The form of a reference as one number, and what the calls with a form answer. Assumes nothing.
-use Rattle.std.specs.Prelude.{ℕ, ◌+◌, ◌-◌, Bool, true, false, cond, ◌&&◌, ◌||◌, List, leb, ltb}
-use Rattle.units.specs.declared.SetSize.{SetSize}
+use Rattle.std.specs.Prelude.{ℕ, ◌+◌, ◌-◌, Bool, true, false, cond, ◌&&◌, ◌||◌, List, leb, ltb, None, Option, Some}
+use Rattle.units.specs.declared.RefSize.{RefSize}
 use Rattle.units.specs.declared.MarkReference.{MarkReference}
 use Rattle.units.specs.declared.MarkReference.TheVariants.{Direct, Delta}
 use Rattle.units.specs.declared.AsmReference.{AsmReference}
-use Rattle.units.specs.declared.SizeFor.{SizeFor}
-use Rattle.units.specs.declared.SizeFor.TheVariants.{Bytes, TooNarrow}
 use Rattle.units.specs.Reference.{least_size, size_for}
 use Rattle.units.specs.Replies.{too_narrow}
 use Rattle.records.specs.Record.{set_size_of, pushed_delta_kind, raw_delta_kind}
@@ -28,7 +26,7 @@ abbrev pub delta : ℕ → ℕ → MarkReference
 delta start end = Delta (record { start = record { 0 = start }; end = record { 0 = end } })
 
 -- either in a form
-abbrev pub formed : MarkReference → SetSize → Bool → AsmReference
+abbrev pub formed : MarkReference → Option RefSize → Bool → AsmReference
 formed m s p = record { mark_ref = m; set_size = s; pushed = p }
 
 -- the answer to pushing a reference of a form
@@ -42,9 +40,9 @@ reference_after w m (Names s p) st = (push_after w (push_reference (formed m s p
 reference_after w m Nothing st = st.words
 
 -- a size as an answer
-abbrev pub size_number : SizeFor → ℕ
-size_number (Bytes n) = packed 0 0 n
-size_number TooNarrow = packed too_narrow 0 0
+abbrev pub size_number : Option ℕ → ℕ
+size_number (Some n) = packed 0 0 n
+size_number None = packed too_narrow 0 0
 
 -- the size of a form for a value; no size depends on the marks (`size_any_mark`, proofs/Forms)
 abbrev pub size_for_number : Form → ℕ → ℕ
