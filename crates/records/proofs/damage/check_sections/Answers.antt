@@ -1,12 +1,9 @@
 -- The walk goes on while no section is broken, and leaves at the first that is.
 -- Assumes nothing.
-use Prim.Native.Nat.{◌+◌}
-use mathlib.Core.Path.{◌≡◌, sym, ap, ◌∙◌}
-use mathlib.Core.Bool.{Bool, cond}
-use lib.Dec.{eqb}
+use mathlib.Core.Path.{sym, ap, ◌∙◌}
+use mathlib.Core.Bool.{cond}
 use Rattle.records.specs.Damage.{is_span}
 use Rattle.records.specs.Store.{store_of, words_per_section}
-use Rattle.records.specs.Held.{held_read}
 use Rattle.records.specs.declared.record.StoredSection.{StoredSection}
 use Rattle.records.proofs.Damages.{walk_start, walk_test, walk_next, walk_broken, walk_done}
 use Rattle.records.proofs.Helds.{damaged_broken, held_broken, held_end}
