@@ -8,7 +8,7 @@ use Rattle.numbers.specs.Numbers.{store_in}
 use Prim.Native.Nat.{ℕ, ◌+◌}
 use mathlib.Core.Path.{ap}
 use Rattle.short.specs.Tests.{Begins}
-use Rattle.short.proofs.Ways.{nothing_tried, tried_as, ops_begun}
+use Rattle.short.proofs.Ways.{done_as, ops_begun}
 use Rattle.short.proofs.begin_op.Goals as goal
 use Rattle.short.proofs.begin_op.Goals.{Else-not-begins_ops, Start}
 
@@ -21,9 +21,6 @@ entry c = (goal.at.Else-not-begins_ops c).Start
 
 took : (c : goal.Else-not-begins_ops) → Begins words_per_section 1 (store_at (entry c))
 took c = c.begins_ops.ensures c.if-not-begins_ops.false
-
-pub returns-then-not-begins_ops : goal.returns-then-not-begins_ops
-returns-then-not-begins_ops c = nothing_tried
 
 pub bounds-bytes-stored : goal.bounds-bytes-stored
 bounds-bytes-stored c = omega (arith, (took c).room)
@@ -46,6 +43,6 @@ returns c =
     let put = c in
     let tested = (goal.at.returns put).Else-not-begins_ops in
     let a = (entry tested).args in
-    tried_as (ap (λ (n : ℕ). n + 1) put.append_words.ensures.state) (over_one a.bytes.now _ a.op (omega (arith, (took tested).room)))
+    done_as (ap (λ (n : ℕ). n + 1) put.append_words.ensures.state) (over_one a.bytes.now _ a.op (omega (arith, (took tested).room)))
     put.append_words.ensures.words
     (ops_begun a.state a.bytes.now a.words.now (a.op ∷ []) (took tested))

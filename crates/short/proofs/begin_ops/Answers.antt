@@ -8,7 +8,7 @@ use Rattle.records.specs.Store.{Store, words_per_section}
 use Rattle.numbers.specs.Numbers.{store_in}
 use Rattle.slices.proofs.Over.{has_room}
 use Rattle.short.specs.Tests.{Begins}
-use Rattle.short.proofs.Ways.{nothing_tried, tried_as, ops_begun}
+use Rattle.short.proofs.Ways.{done_as, ops_begun}
 use Rattle.short.proofs.begin_ops.Goals as goal
 use Rattle.short.proofs.begin_ops.Goals.{Else-not-begins_ops, Start}
 
@@ -21,9 +21,6 @@ entry c = (goal.at.Else-not-begins_ops c).Start
 
 took : (c : goal.Else-not-begins_ops) → Begins words_per_section (length (entry c).args.added.now) (store_at (entry c))
 took c = c.begins_ops.ensures c.if-not-begins_ops.false
-
-pub returns-then-not-begins_ops : goal.returns-then-not-begins_ops
-returns-then-not-begins_ops c = nothing_tried
 
 pub overflow_cast-count : goal.overflow_cast-count
 overflow_cast-count c = omega (arith, (took c).limit)
@@ -53,6 +50,6 @@ returns c =
     let tested = (goal.at.returns wrote).Else-not-begins_ops in
     let a = (entry tested).args in
     let copied = has_room a.bytes.now (a.state % 2 ^ 32) a.added.now (took tested).room in
-    tried_as (ap (λ (n : ℕ). n + length a.added.now) put.append_words.ensures.state) (wrote.write_bytes.ensures ∙ copied)
+    done_as (ap (λ (n : ℕ). n + length a.added.now) put.append_words.ensures.state) (wrote.write_bytes.ensures ∙ copied)
     put.append_words.ensures.words
     (ops_begun a.state a.bytes.now a.words.now a.added.now (took tested))

@@ -8,7 +8,7 @@ use mathlib.Core.Path.{◌∙◌}
 use lib.ListN.{length}
 use Rattle.slices.proofs.Over.{has_room}
 use Rattle.short.specs.Tests.{Extends}
-use Rattle.short.proofs.Ways.{nothing_tried, tried_as, span_extended}
+use Rattle.short.proofs.Ways.{done_as, span_extended}
 use Rattle.short.proofs.extend_bytes.Goals as goal
 use Rattle.short.proofs.extend_bytes.Goals.{Else-not-extends, Start}
 
@@ -21,9 +21,6 @@ entry c = (goal.at.Else-not-extends c).Start
 
 took : (c : goal.Else-not-extends) → Extends words_per_section (entry c).args.kind (length (entry c).args.added.now) (store_at (entry c))
 took c = c.extends.ensures c.if-not-extends.false
-
-pub returns-then-not-extends : goal.returns-then-not-extends
-returns-then-not-extends c = nothing_tried
 
 pub overflow_cast-added : goal.overflow_cast-added
 overflow_cast-added c =
@@ -47,5 +44,5 @@ returns c =
     let start = entry tested in
     let a = start.args in
     let e = took tested in
-    tried_as moved.move_end.ensures.state (wrote.write_bytes.ensures ∙ has_room a.bytes.now (a.state % 2 ^ 32) a.added.now e.room) moved.move_end.ensures.words
+    done_as moved.move_end.ensures.state (wrote.write_bytes.ensures ∙ has_room a.bytes.now (a.state % 2 ^ 32) a.added.now e.room) moved.move_end.ensures.words
     (span_extended a.state a.bytes.now a.words.now a.kind a.added.now start.requires.0 start.requires.1 e)

@@ -10,7 +10,7 @@ use lib.ListN.{length, length-set}
 use Rattle.records.specs.Record.{ops_kind}
 use Rattle.short.specs.Tests.{Extends, end_moved}
 use Rattle.short.proofs.Digits.{instruction_written}
-use Rattle.short.proofs.Ways.{nothing_tried, tried_as, span_extended, extends_fewer}
+use Rattle.short.proofs.Ways.{done_as, span_extended, extends_fewer}
 use Rattle.short.proofs.extend_instruction.Goals as goal
 use Rattle.short.proofs.extend_instruction.Goals.{Else-immediate-gt-LONGEST_IMMEDIATE, Else-not-extends, Start}
 
@@ -26,12 +26,6 @@ tested c = (goal.at.Else-not-extends c).Else-immediate-gt-LONGEST_IMMEDIATE
 
 took : (c : goal.Else-not-extends) → Extends words_per_section ops_kind (1 + length (entry (tested c)).args.immediate.now) (store_at (entry (tested c)))
 took c = c.extends.ensures c.if-not-extends.false
-
-pub returns-then-immediate-gt-LONGEST_IMMEDIATE : goal.returns-then-immediate-gt-LONGEST_IMMEDIATE
-returns-then-immediate-gt-LONGEST_IMMEDIATE c = nothing_tried
-
-pub returns-then-not-extends : goal.returns-then-not-extends
-returns-then-not-extends c = nothing_tried
 
 pub bounds-bytes-at : goal.bounds-bytes-at
 bounds-bytes-at c = omega (arith, (took c).room)
@@ -59,7 +53,7 @@ returns c =
     let a = (entry (tested (goal.at.returns wrote).Else-not-extends)).args in
     let e = took (goal.at.returns wrote).Else-not-extends in
     let long : 1 + length a.immediate.now ≡ length (a.op ∷ a.immediate.now) = omega arith in
-    tried_as (moved.move_end.ensures.state ∙ ap (λ (n : ℕ). a.state + n) long)
+    done_as (moved.move_end.ensures.state ∙ ap (λ (n : ℕ). a.state + n) long)
     (wrote.write_bytes.ensures ∙ instruction_written a.bytes.now (a.state % 2 ^ 32) a.op a.immediate.now e.room)
     (moved.move_end.ensures.words ∙ ap (end_moved words_per_section a.state a.words.now) long)
     (span_extended a.state a.bytes.now a.words.now ops_kind (a.op ∷ a.immediate.now) (omega arith) (omega arith)

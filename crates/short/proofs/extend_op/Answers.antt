@@ -8,7 +8,7 @@ use mathlib.Core.List.{[], ◌∷◌}
 use Rattle.records.specs.Record.{ops_kind}
 use Rattle.slices.proofs.Over.{over_one}
 use Rattle.short.specs.Tests.{Extends}
-use Rattle.short.proofs.Ways.{nothing_tried, tried_as, span_extended}
+use Rattle.short.proofs.Ways.{done_as, span_extended}
 use Rattle.short.proofs.extend_op.Goals as goal
 use Rattle.short.proofs.extend_op.Goals.{Else-not-extends, Start}
 
@@ -21,9 +21,6 @@ entry c = (goal.at.Else-not-extends c).Start
 
 took : (c : goal.Else-not-extends) → Extends words_per_section ops_kind 1 (store_at (entry c))
 took c = c.extends.ensures c.if-not-extends.false
-
-pub returns-then-not-extends : goal.returns-then-not-extends
-returns-then-not-extends c = nothing_tried
 
 pub bounds-bytes-state : goal.bounds-bytes-state
 bounds-bytes-state c = omega (arith, (took c).room)
@@ -42,5 +39,5 @@ returns c =
     let tested = (goal.at.returns moved).Else-not-extends in
     let a = (entry tested).args in
     let e = took tested in
-    tried_as moved.move_end.ensures.state (over_one a.bytes.now (a.state % 2 ^ 32) a.op (omega (arith, e.room))) moved.move_end.ensures.words
+    done_as moved.move_end.ensures.state (over_one a.bytes.now (a.state % 2 ^ 32) a.op (omega (arith, e.room))) moved.move_end.ensures.words
     (span_extended a.state a.bytes.now a.words.now ops_kind (a.op ∷ []) (omega arith) (omega arith) e)

@@ -10,7 +10,7 @@ use Rattle.records.specs.Record.{ops_kind}
 use Rattle.calls.specs.Calls.{minimal_push}
 use Rattle.short.specs.Tests.{Extends, end_moved}
 use Rattle.short.proofs.Digits.{length_push, push_nine, push_written}
-use Rattle.short.proofs.Ways.{nothing_tried, tried_as, span_extended, extends_fewer}
+use Rattle.short.proofs.Ways.{done_as, span_extended, extends_fewer}
 use Rattle.short.proofs.extend_push.Goals as goal
 use Rattle.short.proofs.extend_push.Goals.{Else-not-extends, Start}
 
@@ -23,9 +23,6 @@ entry c = (goal.at.Else-not-extends c).Start
 
 took : (c : goal.Else-not-extends) → Extends words_per_section ops_kind 9 (store_at (entry c))
 took c = c.extends.ensures c.if-not-extends.false
-
-pub returns-then-not-extends : goal.returns-then-not-extends
-returns-then-not-extends c = nothing_tried
 
 pub bounds-bytes-at : goal.bounds-bytes-at
 bounds-bytes-at c = omega (arith, (took (goal.at.bounds-bytes-at c).Else-not-extends).room)
@@ -65,7 +62,7 @@ returns c =
     let count = counted.least_bytes-count in
     let long : 1 + count.result ≡ length (minimal_push a.value) = omega (arith, count.ensures.0, length_push a.value) in
     let fits : a.state % 2 ^ 32 < length a.bytes.now = omega (arith, e.room) in
-    tried_as (moved.move_end.ensures.state ∙ ap (λ (n : ℕ). a.state + n) long)
+    done_as (moved.move_end.ensures.state ∙ ap (λ (n : ℕ). a.state + n) long)
     (wrote.write_number.ensures ∙ push_written a.bytes.now (a.state % 2 ^ 32) count.result a.value count.ensures.0 fits)
     (moved.move_end.ensures.words ∙ ap (end_moved words_per_section a.state a.words.now) long)
     (span_extended a.state a.bytes.now a.words.now ops_kind (minimal_push a.value) (omega arith) (omega arith)
