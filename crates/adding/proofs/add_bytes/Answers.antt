@@ -83,7 +83,7 @@ joining c =
     let at-counts = counts (fitting c) in
     let a = (entry at-counts).args in
     c.last_kind_is.ensures
-    ∙ ap (last_kind_is words_per_section (store_at at-counts).sections a.words.now) c.kind_number-number.ensures
+    ∙ ap (last_kind_is words_per_section (store_at at-counts).sections a.words.now) c.from-number.ensures
     ∙ joins_is words_per_section a.kind a.added.now (store_at at-counts)
 
 -- a section is left
@@ -188,7 +188,7 @@ returns c =
     (λ (k : ℕ).
     over st.words (words_per_section * st.sections)
     (record_words words_per_section (stored_section k st.stored_bytes (st.stored_bytes + length a.added.now))))
-    found.kind_number-number.ensures
+    found.from-number.ensures
     in
     let all = by_state at-counts _ _ _
     (c.state_of-2.ensures ∙ all.0, (wrote.write_bytes-2.ensures ∙ whole ∙ all.1.0, appended.write_words.ensures ∙ recorded ∙ named ∙ all.1.1)) in
