@@ -12,7 +12,7 @@ ghost use Rattle.numbers.specs.Numbers.{store_in, built_number};
 ghost use Rattle.adding.specs.Adding.{kind_number, bytes_section, last_kind_is, ops_section_passes};
 
 use numbers::{counts_in, refusal_number, state_of};
-use records::{Assembler, Soundness, StoredSection, check_last, kind, write_words};
+use records::{Assembler, StoredSection, check_last, kind, write_words};
 use slices::write_bytes;
 use units::Refusal;
 
@@ -51,8 +51,8 @@ pub fn add_bytes(
         (store_in state bytes.old words.old)).words }
 {
     let store = counts_in(state);
-    if let Soundness::Damaged(section) = check_last(store, bytes, words) {
-        return refusal_number(Refusal::Damaged { section });
+    if let Err(damage) = check_last(store, bytes, words) {
+        return refusal_number(damage.into());
     }
     if bytes_pass(store, bytes, added.len()) {
         return refusal_number(Refusal::BytesFull);
@@ -92,8 +92,8 @@ pub fn add_run(state: u64, bytes: &mut [u8], words: &mut [u32], run: &[u8]) -> u
         (store_in state bytes.old words.old)).words }
 {
     let store = counts_in(state);
-    if let Soundness::Damaged(section) = check_last(store, bytes, words) {
-        return refusal_number(Refusal::Damaged { section });
+    if let Err(damage) = check_last(store, bytes, words) {
+        return refusal_number(damage.into());
     }
     if bytes_pass(store, bytes, 1) {
         return refusal_number(Refusal::BytesFull);
@@ -120,8 +120,8 @@ pub fn add_section(
         (store_in state bytes.now words.old)).words }
 {
     let store = counts_in(state);
-    if let Soundness::Damaged(section) = check_last(store, bytes, words) {
-        return refusal_number(Refusal::Damaged { section });
+    if let Err(damage) = check_last(store, bytes, words) {
+        return refusal_number(damage.into());
     }
     let sections = store.sections;
     if no_section_left(sections, words) {
