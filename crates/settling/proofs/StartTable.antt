@@ -54,27 +54,7 @@ less_zeros (suc n) = ap (λ (l : List ℕ). 0 ∷ l) (less_zeros n)
 abbrev pub LessTo : List ℕ → List ℕ → ℕ → Type 0
 LessTo old t i = (length t ≡ length old) × ((j : ℕ) → j < i → get_or t j 0 ≡ get_or old j 0 - 1) × ((j : ℕ) → i ≤ j → get_or t j 0 ≡ get_or old j 0)
 
-pub less_start : (t : List ℕ) → LessTo t t 0
-less_start t = (refl, λ j l. absurd (omega arith), λ j l. refl)
-
-pub less_next : (old t : List ℕ) (i v : ℕ) → LessTo old t i → i < length t → v ≡ get_or t i 0 - 1 → LessTo old (set t i v) (i + 1)
-less_next old t i v h l e = (length-set t i v ∙ h.0, before, after)
-  where
-    before : (j : ℕ) → j < i + 1 → get_or (set t i v) j 0 ≡ get_or old j 0 - 1
-    before j k = go (eqb j i) refl
-      where
-        go : (q : Bool) → eqb j i ≡ q → get_or (set t i v) j 0 ≡ get_or old j 0 - 1
-        go true d =
-            let same : j ≡ i = eqb-true j i d in
-            rw same (get_or-set_same t i v 0 l ∙ e ∙ ap (λ (x : ℕ). x - 1) (h.2 i (omega arith)))
-        go false d =
-            let other : j ≡ i → ⊥ = eqb-false j i d in
-            get_or-set_other t i j v 0 other ∙ h.1 j (omega (arith, other))
-
-    after : (j : ℕ) → i + 1 ≤ j → get_or (set t i v) j 0 ≡ get_or old j 0
-    after j k = get_or-set_other t i j v 0 (λ (d : j ≡ i). omega arith) ∙ h.2 j (omega arith)
-
-pub less_done : (old t : List ℕ) (i : ℕ) → LessTo old t i → length t ≤ i → t ≡ less_one old
+pub less_done : (old t : List ℕ) (i : ℕ) → LessTo old t i → length old ≤ i → t ≡ less_one old
 less_done old t i h l = ext_get_or 0 t (less_one old) (h.0 ∙ sym (length_less old)) (λ j k. h.1 j (omega arith) ∙ sym (less_at old j))
 
 -- ---- a mark placed
@@ -126,22 +106,6 @@ module _ (table : List ℕ) (m sum : ℕ) (l : m < length table) where
         let kept : entry (first_sums n ss) m ≡ entry (place_mark table m sum) m =
         ap (λ (x : List ℕ). entry x m) (sym whole) ∙ place_kept (drop (i + 1) ss) sum (place_mark table m sum) m placed_not_zero in
         ap₂ (λ (x y : ℕ). not (eqb x (y + 1))) (sym kept) d ∙ apart_test n ss i m k e h
-
--- ---- the earlier of two
-
-module _ (b : Bool) (i found : ℕ) where
-  pub earlier_not : b ≡ false → found ≡ cond b (cond (ltb i found) i found) found
-  earlier_not e = rw e
-
-  pub earlier_so : b ≡ true → i < found → i ≡ cond b (cond (ltb i found) i found) found
-  earlier_so e l =
-      let s : ltb i found ≡ true = lt-ltb i found l in
-      rw (e, s)
-
-  pub earlier_later : b ≡ true → found ≤ i → found ≡ cond b (cond (ltb i found) i found) found
-  earlier_later e l =
-      let s : ltb i found ≡ false = le-ltb i found l in
-      rw (e, s)
 
 -- ---- the first one so far
 

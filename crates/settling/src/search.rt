@@ -53,18 +53,11 @@ fn is_unplaced(section: StoredSection, table: &[u32]) -> bool
 }
 
 // Every mark that the table has room for is placed.
-#[tactic(auto, using(crate::proofs::FirstPlacings::zero_found, crate::proofs::FirstPlacings::no_zero))]
+#[tactic(auto, using(crate::proofs::FirstPlacings::none_zero))]
 fn all_placed(table: &[u32]) -> bool
     ensures { result ≡ all_placed table.now }
 {
-    let mut m = 0;
-    while m < table.len() {
-        if table[m] == 0 {
-            return false;
-        }
-        m += 1;
-    }
-    true
+    !table.contains(&0)
 }
 
 // The first reference to a mark that is never placed. Where all are placed, the sections need no walk.
@@ -76,14 +69,12 @@ pub(crate) fn first_unplaced(store: Assembler, bytes: &[u8], words: &[u32], tabl
     if all_placed(table) {
         return store.sections;
     }
-    let mut i: u32 = 0;
-    while i < store.sections {
+    for i in 0..store.sections {
         if is_unplaced(section_words(words, i as usize), table) {
             return i;
         }
-        i += 1;
     }
-    i
+    store.sections
 }
 
 // 8, 17 or 18 for the section that the search found: by its kind and, of a delta, by whether its start is placed. `tables` calls it too.
@@ -126,12 +117,10 @@ pub(crate) fn first_backward(
     if !has_delta {
         return store.sections;
     }
-    let mut i: u32 = 0;
-    while i < store.sections {
+    for i in 0..store.sections {
         if is_backward(section_words(words, i as usize), table) {
             return i;
         }
-        i += 1;
     }
-    i
+    store.sections
 }

@@ -13,11 +13,7 @@ use units::MarkId;
 pub fn clear(table: &mut [u32])
     ensures { table.new ≡ replicate (length table.old) 0 }
 {
-    let mut i = 0;
-    while i < table.len() {
-        table[i] = 0;
-        i += 1;
-    }
+    table.fill(0);
 }
 
 // At a mark's first placing, the sum of least sizes before it, plus 1; that a later placing has another.
@@ -39,13 +35,7 @@ fn place_mark(table: &mut [u32], mark: MarkId, sum: u32) -> bool
 pub fn earlier(found: u32, i: u32, is_one: bool) -> u32
     ensures { result ≡ cond is_one (cond (ltb i found) i found) found }
 {
-    if !is_one {
-        return found;
-    }
-    if i < found {
-        return i;
-    }
-    found
+    if is_one { found.min(i) } else { found }
 }
 
 // What the walk of the placings finds. The first section with a mark at or past the table's length, at which it stops; the first placing
@@ -67,11 +57,10 @@ pub(crate) fn place(store: Assembler, bytes: &[u8], words: &[u32], table: &mut [
         → Placed (length table.old) (sections_of store bytes.now words.now) result table.new }
 {
     let limit = table.len();
-    let mut i: u32 = 0;
     let mut sum: u32 = 0;
     let mut apart = store.sections;
     let mut has_delta = false;
-    while i < store.sections {
+    for i in 0..store.sections {
         let section = section_words(words, i as usize);
         if is_short(section, limit) {
             return Placings {
@@ -80,38 +69,26 @@ pub(crate) fn place(store: Assembler, bytes: &[u8], words: &[u32], table: &mut [
                 has_delta,
             };
         }
-        has_delta = has_delta | (kind::DIRECT < section.kind);
+        has_delta |= kind::DIRECT < section.kind;
         if section.kind == kind::MARK {
             let is_apart = place_mark(table, MarkId(section.first), sum);
             apart = earlier(apart, i, is_apart);
         } else {
             sum += least_size(section);
         }
-        i += 1;
     }
     Placings {
-        short: i,
+        short: store.sections,
         apart,
         has_delta,
     }
-}
-
-fn less(n: u32) -> u32
-    ensures { result ≡ n - 1 }
-{
-    if n == 0 {
-        return 0;
-    }
-    n - 1
 }
 
 // Every entry that isn't 0 less 1: of the table of first placings the start table, where none is apart.
 pub(crate) fn less_one(table: &mut [u32])
     ensures { table.new ≡ less_one table.old }
 {
-    let mut m = 0;
-    while m < table.len() {
-        table[m] = less(table[m]);
-        m += 1;
+    for entry in table.iter_mut() {
+        *entry = entry.saturating_sub(1);
     }
 }

@@ -1,5 +1,4 @@
--- Without a delta none is backward. Else the invariant: no delta before i is. The measure is what is left.
--- Assumes nothing.
+-- Without a delta none is backward. Else the invariant: no delta before i is. Assumes nothing.
 use native.Mathlib.Omega.{arith}
 use mathlib.Core.Path.{◌≡◌, sym, ◌∙◌}
 use mathlib.Core.List.{List}
@@ -37,10 +36,7 @@ returns-then-not-has_delta c =
     sym (decode_count words_per_section (store_of a.store a.bytes.now a.words.now)) ∙ none_backward _ _ (start.requires.never c.if-not-has_delta.true)
 
 pub loop-i-init : goal.loop-i-init
-loop-i-init c = (omega arith, search_start _)
-
-pub overflow_cast-i : goal.overflow_cast-i
-overflow_cast-i c = omega arith
+loop-i-init c = search_start _
 
 pub section_words-requires : goal.section_words-requires
 section_words-requires c =
@@ -54,18 +50,12 @@ pub returns-then-is_backward : goal.returns-then-is_backward
 unfolding first_backward
 returns-then-is_backward c =
     let read = (goal.at.returns-then-is_backward c).After-section_words in
-    search_hit _ _ _ (at-loop read).loop-i.invariant.1 (here read).below (sym (tested (goal.at.returns-then-is_backward c).After-is_backward) ∙ c.if-is_backward.true)
-
-pub overflow_add-i : goal.overflow_add-i
-overflow_add-i c = omega arith
-
-pub loop-i-smaller : goal.loop-i-smaller
-loop-i-smaller c = omega arith
+    search_hit _ _ _ (at-loop read).loop-i.invariant (here read).below (sym (tested (goal.at.returns-then-is_backward c).After-is_backward) ∙ c.if-is_backward.true)
 
 pub loop-i-preserved : goal.loop-i-preserved
 loop-i-preserved c =
     let read = (goal.at.loop-i-preserved c).After-section_words in
-    (omega arith, search_next _ _ (at-loop read).loop-i.invariant.1 (sym (tested (goal.at.loop-i-preserved c).After-is_backward) ∙ c.if-is_backward.false))
+    search_next _ _ (at-loop read).loop-i.invariant (sym (tested (goal.at.loop-i-preserved c).After-is_backward) ∙ c.if-is_backward.false)
 
 pub returns : goal.returns
 unfolding first_backward
@@ -73,4 +63,5 @@ returns c =
     let turning = (goal.at.returns c).At-loop-i in
     let a = (entry turning).args in
     let count = decode_count words_per_section (store_of a.store a.bytes.now a.words.now) in
-    search_done _ _ _ turning.loop-i.invariant.1 (omega (arith, count)) (omega (arith, count))
+    let end : a.store.sections ≡ turning.loop-i.i = omega arith in
+    end ∙ search_done _ _ _ turning.loop-i.invariant (omega (arith, count)) (omega (arith, count))

@@ -1,5 +1,4 @@
--- Where all marks are placed, no reference is to an unplaced one. Else the invariant: no section before i is one. The measure is what is left.
--- Assumes nothing.
+-- Where all marks are placed, no reference is to an unplaced one. Else the invariant: no section before i is one. Assumes nothing.
 use native.Mathlib.Omega.{arith}
 use mathlib.Core.Path.{◌≡◌, refl, sym, ◌∙◌}
 use mathlib.Core.List.{List}
@@ -41,10 +40,7 @@ returns-then-all_placed c =
     ∙ all_placed_lem _ _ _ start.requires.table_value start.requires.fitting.in_table refl (sym c.all_placed.ensures ∙ c.if-all_placed.true)
 
 pub loop-i-init : goal.loop-i-init
-loop-i-init c = (omega arith, search_start _)
-
-pub overflow_cast-i : goal.overflow_cast-i
-overflow_cast-i c = omega arith
+loop-i-init c = search_start _
 
 pub section_words-requires : goal.section_words-requires
 section_words-requires c =
@@ -58,18 +54,12 @@ pub returns-then-is_unplaced : goal.returns-then-is_unplaced
 unfolding first_unplaced
 returns-then-is_unplaced c =
     let read = (goal.at.returns-then-is_unplaced c).After-section_words in
-    search_hit _ _ _ (at-loop read).loop-i.invariant.1 (here read).below (sym (tested (goal.at.returns-then-is_unplaced c).After-is_unplaced) ∙ c.if-is_unplaced.true)
-
-pub overflow_add-i : goal.overflow_add-i
-overflow_add-i c = omega arith
-
-pub loop-i-smaller : goal.loop-i-smaller
-loop-i-smaller c = omega arith
+    search_hit _ _ _ (at-loop read).loop-i.invariant (here read).below (sym (tested (goal.at.returns-then-is_unplaced c).After-is_unplaced) ∙ c.if-is_unplaced.true)
 
 pub loop-i-preserved : goal.loop-i-preserved
 loop-i-preserved c =
     let read = (goal.at.loop-i-preserved c).After-section_words in
-    (omega arith, search_next _ _ (at-loop read).loop-i.invariant.1 (sym (tested (goal.at.loop-i-preserved c).After-is_unplaced) ∙ c.if-is_unplaced.false))
+    search_next _ _ (at-loop read).loop-i.invariant (sym (tested (goal.at.loop-i-preserved c).After-is_unplaced) ∙ c.if-is_unplaced.false)
 
 pub returns : goal.returns
 unfolding first_unplaced
@@ -77,4 +67,5 @@ returns c =
     let turning = (goal.at.returns c).At-loop-i in
     let a = (entry turning).args in
     let count = decode_count words_per_section (store_of a.store a.bytes.now a.words.now) in
-    search_done _ _ _ turning.loop-i.invariant.1 (omega (arith, count)) (omega (arith, count))
+    let end : a.store.sections ≡ turning.loop-i.i = omega arith in
+    end ∙ search_done _ _ _ turning.loop-i.invariant (omega (arith, count)) (omega (arith, count))

@@ -1,6 +1,6 @@
 -- The invariant: what remains, from the table and the sum as they are, comes to the whole table of first placings; so does the start table, from
 -- the table less 1, as long as no placing apart was found; the first such so far; no section before i is short, and, if none was met, none is a
--- delta. The measure is what is left. Assumes nothing.
+-- delta. Assumes nothing.
 use Prim.Native.Nat.{ℕ, ◌+◌, ◌≤◌, ◌<◌}
 use native.Mathlib.Omega.{arith}
 use mathlib.Core.Path.{◌≡◌, refl, sym, ap, ap₂, ◌∙◌}
@@ -26,7 +26,7 @@ use Rattle.settling.proofs.FirstPlacings.{apart_none}
 use Rattle.settling.proofs.StartTable.{so_start, so_next, so_done, so_none, placed_apart_lem, less_zeros, start_placed, length_place}
 use Rattle.settling.proofs.table.place.Goals as goal
 use Rattle.settling.proofs.table.place.Goals.{then-section-eq-MARK, else-section-eq-MARK}
-use Rattle.settling.proofs.table.place.Goals.{After-is_short, After-section_words-section, After-struct_known-in-loop-i-2-1, At-loop-i, Else-is_short, Else-section-eq-MARK, Start}
+use Rattle.settling.proofs.table.place.Goals.{After-is_short, After-section_words-section, At-loop-i, Else-is_short, Else-section-eq-MARK, Start}
 
 -- the entry and the sections, seen from the loop
 abbrev entry : goal.At-loop-i → goal.Start
@@ -53,11 +53,8 @@ mark-in : (c : goal.Else-is_short) → c.section_words-section.result.kind ≡ m
 mark-in c e = (marks_in _ _ (sym c.is_short.ensures ∙ c.if-is_short.false)).placed e
 
 -- seen from where its kind is tested
-abbrev passed : goal.After-struct_known-in-loop-i-2-1 → goal.Else-is_short
-passed c = (goal.at.After-struct_known-in-loop-i-2-1 c).Else-is_short
-
-abbrev reading : goal.After-struct_known-in-loop-i-2-1 → goal.After-section_words-section
-reading c = (goal.at.Else-is_short (passed c)).After-section_words-section
+abbrev reading : goal.Else-is_short → goal.After-section_words-section
+reading c = (goal.at.Else-is_short c).After-section_words-section
 
 -- the sum is in bounds, and with the section's least size too
 sum-small : (c : goal.After-section_words-section) → (at-loop c).loop-i.sum ≤ 22020096
@@ -66,9 +63,9 @@ sum-small c =
     room_small _ _ _ (entry turning).requires.whole turning.loop-i.i turning.loop-i.sum turning.loop-i.invariant.0.1 turning.loop-i.invariant.0.0
 
 -- another section: its least size, as the code has it
-least-here : (c : goal.Else-section-eq-MARK) (n : ℕ) → n ≡ least_words (reading (goal.at.Else-section-eq-MARK c).After-struct_known-in-loop-i-2-1).section_words-section.result
-    → n ≡ width_by least_size (section_at (sections (at-loop (reading (goal.at.Else-section-eq-MARK c).After-struct_known-in-loop-i-2-1))) (at-loop (reading (goal.at.Else-section-eq-MARK c).After-struct_known-in-loop-i-2-1)).loop-i.i)
-least-here c n e = e ∙ least_words_lem (here (reading (goal.at.Else-section-eq-MARK c).After-struct_known-in-loop-i-2-1)).words c.if-section-eq-MARK.false
+least-here : (c : goal.Else-section-eq-MARK) (n : ℕ) → n ≡ least_words (reading (goal.at.Else-section-eq-MARK c).Else-is_short).section_words-section.result
+    → n ≡ width_by least_size (section_at (sections (at-loop (reading (goal.at.Else-section-eq-MARK c).Else-is_short))) (at-loop (reading (goal.at.Else-section-eq-MARK c).Else-is_short)).loop-i.i)
+least-here c n e = e ∙ least_words_lem (here (reading (goal.at.Else-section-eq-MARK c).Else-is_short)).words c.if-section-eq-MARK.false
 
 pub loop-i-init : goal.loop-i-init
 unfolding sum_of
@@ -84,9 +81,6 @@ loop-i-init c =
       search_start _,
       λ _. search_start _,
     )
-
-pub overflow_cast-i : goal.overflow_cast-i
-overflow_cast-i c = omega arith
 
 pub section_words-section-requires : goal.section_words-section-requires
 section_words-section-requires c =
@@ -109,29 +103,23 @@ returns-then-is_short c =
 pub place_mark-is_apart-requires : goal.place_mark-is_apart-requires
 place_mark-is_apart-requires c =
     let at-if3 = c in
-    let read = reading (goal.at.place_mark-is_apart-requires at-if3).After-struct_known-in-loop-i-2-1 in
-    (omega (arith, mark-in (passed (goal.at.place_mark-is_apart-requires at-if3).After-struct_known-in-loop-i-2-1) at-if3.if-section-eq-MARK.true, (at-loop read).loop-i.invariant.0.2), omega (arith, sum-small read))
+    let read = reading (goal.at.place_mark-is_apart-requires at-if3).Else-is_short in
+    (omega (arith, mark-in (goal.at.place_mark-is_apart-requires at-if3).Else-is_short at-if3.if-section-eq-MARK.true, (at-loop read).loop-i.invariant.0.2), omega (arith, sum-small read))
 
 pub least_size-sum-requires : goal.least_size-sum-requires
-least_size-sum-requires c = ordered (here (reading (goal.at.least_size-sum-requires c).After-struct_known-in-loop-i-2-1)).words c.if-section-eq-MARK.false
+least_size-sum-requires c = ordered (here (reading (goal.at.least_size-sum-requires c).Else-is_short)).words c.if-section-eq-MARK.false
 
 pub overflow_add-sum : goal.overflow_add-sum
 overflow_add-sum c =
     let at-if3 = (goal.at.overflow_add-sum c).Else-section-eq-MARK in
-    let read = reading (goal.at.Else-section-eq-MARK at-if3).After-struct_known-in-loop-i-2-1 in
+    let read = reading (goal.at.Else-section-eq-MARK at-if3).Else-is_short in
     let turning = at-loop read in
     let l : turning.loop-i.i + 1 ≤ (entry turning).args.store.sections = omega (arith, read.loop-i-test.true) in
     omega (arith, room_small _ _ _ (entry turning).requires.whole (turning.loop-i.i + 1) _ (room_least (sections turning) _ _ (here read).below turning.loop-i.invariant.0.1) l, least-here at-if3 _ c.least_size-sum.ensures)
 
-pub overflow_add-i : goal.overflow_add-i
-overflow_add-i c = omega arith
-
-pub loop-i-smaller : goal.loop-i-smaller
-loop-i-smaller c = omega arith
-
 pub loop-i-preserved : goal.loop-i-preserved
 loop-i-preserved c =
-    let unshort = passed (goal.at.loop-i-preserved c).After-struct_known-in-loop-i-2-1 in
+    let unshort = (goal.at.loop-i-preserved c).Else-is_short in
     let read = (goal.at.loop-i-preserved c).After-section_words-section in
     let turning = at-loop read in
     let ss = sections turning in
@@ -191,9 +179,10 @@ returns c =
     let ss = sections turning in
     let inv = turning.loop-i.invariant in
     let count = decode_count words_per_section (store_of a.store a.bytes.now a.words.now) in
+    let end : a.store.sections ≡ turning.loop-i.i = omega arith in
     let done : length ss ≤ turning.loop-i.i = omega (arith, count, c.loop-i-test.false) in
     record {
-      short = search_done _ _ _ inv.4 (omega (arith, count, inv.0.0)) done;
+      short = end ∙ search_done _ _ _ inv.4 (omega (arith, count, inv.0.0)) done;
       placed = λ _.
           record {
             apart = so_done _ (apart_at ss) _ _ inv.2 inv.0.0 c.loop-i-test.false ∙ ap (λ (k : ℕ). least_from (apart_at ss) k 0) (sym count);

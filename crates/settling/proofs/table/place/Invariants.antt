@@ -1,7 +1,7 @@
 -- The invariant: what remains, from the table and the sum as they are, comes to the whole table of first placings; so does the start table, from
 -- the table less 1, as long as no placing apart was found; the first such so far; no section before i is short, and, if none was met, none is a
--- delta. The measure is what is left. Assumes nothing.
-use Prim.Native.Nat.{◌-◌, ◌≤◌}
+-- delta. Assumes nothing.
+use Prim.Native.Nat.{◌≤◌}
 use mathlib.Core.Path.{◌≡◌}
 use mathlib.Core.Bool.{false}
 use lib.ListN.{length, drop}
@@ -22,6 +22,3 @@ invariant-loop-i l =
     × (l.store.sections ≤ l.apart → start_from (drop l.i (sections_of l.store l.bytes l.words)) l.sum (less_one l.table) ≡ start-table (length l.initial.table) (sections_of l.store l.bytes l.words))
     × NoneBefore (short_at (length l.initial.table) (sections_of l.store l.bytes l.words)) l.i
     × (l.has_delta ≡ false → NoneBefore (delta_at (sections_of l.store l.bytes l.words)) l.i)
-
-abbrev pub decreases-loop-i : goal.decreases-loop-i
-decreases-loop-i l = l.store.sections - l.i
