@@ -37,17 +37,14 @@ pub(crate) fn run_passes(
         ≡ passes_table (length table.old)
         (passes max_passes 1 (sections_of store bytes.now words.now) table.old) }
 {
-    let mut k: u32 = 1;
     let mut refusal = Refusal::Unsettled;
-    'passes: while k <= MAX_PASSES {
-        let mut i: u32 = 0;
+    'passes: for k in 1..=MAX_PASSES {
         let mut sum: u32 = 0;
         let mut moved = false;
-        while i < store.sections {
+        for i in 0..store.sections {
             let section = section_words(words, i as usize);
             if section.kind == kind::MARK {
-                let has_moved = move_mark(table, MarkId(section.first), sum);
-                moved = moved | has_moved;
+                moved |= move_mark(table, MarkId(section.first), sum);
             } else {
                 let SizeFor::Bytes(n) = size_of(section, table) else {
                     refusal = Refusal::TooNarrow {
@@ -58,7 +55,6 @@ pub(crate) fn run_passes(
                 };
                 sum += n;
             }
-            i += 1;
         }
         if !moved {
             return Settled::LaidOut {
@@ -66,7 +62,6 @@ pub(crate) fn run_passes(
                 passes: k,
             };
         }
-        k += 1;
     }
     refuse(table, refusal)
 }

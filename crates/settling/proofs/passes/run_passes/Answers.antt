@@ -1,5 +1,5 @@
 -- The outer invariant: the passes that are left, from the table as it is, come to the whole settling. The inner one: what remains of the walk comes
--- to the whole pass from the table that the pass started with, and its sum is in bounds. The measures are what is left. Assumes nothing.
+-- to the whole pass from the table that the pass started with, and its sum is in bounds. Assumes nothing.
 use Prim.Native.Nat.{ℕ, ◌+◌, ◌≤◌}
 use native.Mathlib.Omega.{arith}
 use mathlib.Core.Path.{◌≡◌, refl, sym, ap, ◌∙◌, subst}
@@ -37,7 +37,7 @@ outer c = (goal.at.At-loop-i c).At-passes
 
 -- the table has its length
 long : (c : goal.At-loop-i) → length c.loop-i.table ≡ length (entry (outer c)).args.table.now
-long c = c.loop-i.invariant.2 ∙ (outer c).passes.invariant.2
+long c = c.loop-i.invariant.1 ∙ (outer c).passes.invariant.1
 
 -- where the section's words were read
 abbrev at-loop : goal.After-section_words-section → goal.At-loop-i
@@ -56,23 +56,20 @@ at_end : (c : goal.After-loop-i) → length (sections (outer (goal.at.After-loop
 at_end c = omega (arith, count (outer (goal.at.After-loop-i c).At-loop-i), c.loop-i-test.false)
 
 pub passes-init : goal.passes-init
-passes-init c = (omega arith, refl, refl, refl)
+passes-init c = (refl, refl, refl)
 
 pub loop-i-init : goal.loop-i-init
-loop-i-init c = (omega arith, omega arith, refl, refl, pass_start _ _)
-
-pub overflow_cast-i : goal.overflow_cast-i
-overflow_cast-i c = omega arith
+loop-i-init c = (omega arith, refl, refl, pass_start _ _)
 
 pub section_words-section-requires : goal.section_words-section-requires
 section_words-section-requires c =
     let turning = (goal.at.section_words-section-requires c).At-loop-i in
     words_fit_lem _ _ _ (entry (outer turning)).requires.whole turning.loop-i.i c.loop-i-test.true
 
-pub move_mark-has_moved-requires : goal.move_mark-has_moved-requires
-move_mark-has_moved-requires c =
+pub move_mark-moved-requires : goal.move_mark-moved-requires
+move_mark-moved-requires c =
     let at-if2 = c in
-    (marks-here (goal.at.move_mark-has_moved-requires at-if2).After-section_words-section).placed at-if2.if-section-eq-MARK.true
+    (marks-here (goal.at.move_mark-moved-requires at-if2).After-section_words-section).placed at-if2.if-section-eq-MARK.true
 
 pub size_of-requires : goal.size_of-requires
 size_of-requires c =
@@ -88,13 +85,7 @@ overflow_add-sum c =
     let turning = at-loop read in
     let size = sym (size_words_lem turning.loop-i.table (here read).words at-if2.if-section-eq-MARK.false) ∙ sym sized.size_of.ensures ∙ c.in-Bytes.is in
     let next : turning.loop-i.i + 1 ≤ (entry (outer turning)).args.store.sections = omega (arith, read.loop-i-test.true) in
-    omega (arith, room_small _ _ _ (entry (outer turning)).requires.whole (turning.loop-i.i + 1) _ (room_size (sections (outer turning)) _ _ (here read).below turning.loop-i.invariant.1 _ _ size) next)
-
-pub overflow_add-i : goal.overflow_add-i
-overflow_add-i c = omega arith
-
-pub loop-i-smaller : goal.loop-i-smaller
-loop-i-smaller c = omega arith
+    omega (arith, room_small _ _ _ (entry (outer turning)).requires.whole (turning.loop-i.i + 1) _ (room_size (sections (outer turning)) _ _ (here read).below turning.loop-i.invariant.0 _ _ size) next)
 
 pub loop-i-preserved : goal.loop-i-preserved
 loop-i-preserved c =
@@ -110,21 +101,19 @@ loop-i-preserved c =
     elim c.if-section-eq-MARK.branch [
       | then-section-eq-MARK w ↦
           let step = pass_at ss i t.below sum moved table _ (as_mark t.words w.if-section-eq-MARK.true) in
-          let set_to = w.table-is ∙ w.move_mark-has_moved.ensures.table in (
-            omega arith,
-            omega (arith, w.sum-is, room_mark ss i sum t.below inv.1),
-            ap length set_to ∙ length-set table _ _ ∙ inv.2,
-            inv.3,
-            pass_next ss i sum moved table _ _ _ _ inv.4 step w.sum-is (w.moved-is ∙ ap (λ (b : Bool). moved || b) w.move_mark-has_moved.ensures.moved) set_to,
+          let set_to = w.table-is ∙ w.move_mark-moved.ensures.table in (
+            omega (arith, w.sum-is, room_mark ss i sum t.below inv.0),
+            ap length set_to ∙ length-set table _ _ ∙ inv.1,
+            inv.2,
+            pass_next ss i sum moved table _ _ _ _ inv.3 step w.sum-is (w.moved-is ∙ ap (λ (b : Bool). moved || b) w.move_mark-moved.ensures.moved) set_to,
           )
       | else-section-eq-MARK+in-Bytes w ↦
           let size = sym (size_words_lem table t.words w.if-section-eq-MARK.false) ∙ sym w.size_of.ensures ∙ w.in-Bytes.is in
           let step = pass_past ss i t.below sum _ moved table (not_mark t.words w.if-section-eq-MARK.false) size in (
-            omega arith,
-            omega (arith, w.sum-is, room_size ss i sum t.below inv.1 _ _ size),
-            ap length w.table-is ∙ inv.2,
-            inv.3,
-            pass_next ss i sum moved table _ _ _ _ inv.4 step w.sum-is w.moved-is w.table-is,
+            omega (arith, w.sum-is, room_size ss i sum t.below inv.0 _ _ size),
+            ap length w.table-is ∙ inv.1,
+            inv.2,
+            pass_next ss i sum moved table _ _ _ _ inv.3 step w.sum-is w.moved-is w.table-is,
           )
     ]
 
@@ -135,31 +124,24 @@ pub returns-then-not-moved : goal.returns-then-not-moved
 returns-then-not-moved c =
     let turning = (goal.at.returns-then-not-moved c).At-loop-i in
     let o = outer turning in
-    let is = settles-calm (sections o) _ _ (comes-to o) turning.passes-test.true o.passes.invariant.3 _ _ _ _ turning.loop-i.invariant.4 (at_end (goal.at.returns-then-not-moved c).After-loop-i) c.if-not-moved.true in
+    let is = settles-calm (sections o) _ _ (comes-to o) turning.passes-test.true o.passes.invariant.2 _ _ _ _ turning.loop-i.invariant.3 (at_end (goal.at.returns-then-not-moved c).After-loop-i) c.if-not-moved.true in
     record { reply = ap passes_reply (sym is); table = ap (passes_table _) (sym is) }
-
-pub overflow_add-k : goal.overflow_add-k
-overflow_add-k c = omega arith
-
-pub passes-smaller : goal.passes-smaller
-passes-smaller c = omega arith
 
 pub passes-preserved : goal.passes-preserved
 passes-preserved c =
     let turning = (goal.at.passes-preserved c).At-loop-i in
     let o = outer turning in (
-      omega arith,
-      turning.loop-i.invariant.3 ∙ o.passes.invariant.1,
+      turning.loop-i.invariant.2 ∙ o.passes.invariant.0,
       long turning,
-      settles_on (sections o) _ _ (comes-to o) turning.passes-test.true o.passes.invariant.3 _ _ _ _ turning.loop-i.invariant.4 (at_end (goal.at.passes-preserved c).After-loop-i) c.if-not-moved.false,
+      settles_on (sections o) _ _ (comes-to o) turning.passes-test.true o.passes.invariant.2 _ _ _ _ turning.loop-i.invariant.3 (at_end (goal.at.passes-preserved c).After-loop-i) c.if-not-moved.false,
     )
 
 -- the table has its length however the passes are left
 left-long : (c : goal.Left-passes) → length c.passes-test.table ≡ length (entry (goal.at.Left-passes c).At-passes).args.table.now
 left-long c =
     elim c.passes-test.branch [
-      | else-passes-test w ↦ ap length w.table-is ∙ c.passes.invariant.2
-      | then-passes-test+then-loop-i-test+else-section-eq-MARK+in_default w ↦ ap length w.table-is ∙ w.loop-i.invariant.2 ∙ c.passes.invariant.2
+      | else-passes-test w ↦ ap length w.table-is ∙ c.passes.invariant.1
+      | then-passes-test+then-loop-i-test+else-section-eq-MARK+in_default w ↦ ap length w.table-is ∙ w.loop-i.invariant.1 ∙ c.passes.invariant.1
     ]
 
 -- the refusal is the reply: 11 after the last pass, or 10 at the section where the walk was left
@@ -169,13 +151,13 @@ refused c =
     let o = (goal.at.Left-passes c).At-passes in
     elim c.passes-test.branch [
       | else-passes-test w ↦
-          let is = settles_out (sections o) _ _ (comes-to o) w.passes-test.false o.passes.invariant.3 in
-          (ap Refused (w.refusal-is ∙ o.passes.invariant.1) ∙ ap passes_reply (sym is), ap (passes_table _) (sym is))
+          let is = settles_out (sections o) _ _ (comes-to o) w.passes-test.false o.passes.invariant.2 in
+          (ap Refused (w.refusal-is ∙ o.passes.invariant.0) ∙ ap passes_reply (sym is), ap (passes_table _) (sym is))
       | then-passes-test+then-loop-i-test+else-section-eq-MARK+in_default w ↦
           let t = turn _ _ _ (entry o).requires.whole _ _ w.loop-i-test.true w.section_words-section.ensures in
           let narrow = sym (size_words_lem w.loop-i.table t.words w.if-section-eq-MARK.false) ∙ sym w.size_of.ensures ∙ w.in_default.is in
           let leaves = pass_left (sections o) w.loop-i.i t.below w.loop-i.sum w.loop-i.moved w.loop-i.table (not_mark t.words w.if-section-eq-MARK.false) narrow in
-          let is = settles-narrow (sections o) _ _ (comes-to o) w.passes-test.true o.passes.invariant.3 _ _ _ _ w.loop-i.invariant.4 leaves in
+          let is = settles-narrow (sections o) _ _ (comes-to o) w.passes-test.true o.passes.invariant.2 _ _ _ _ w.loop-i.invariant.3 leaves in
           (ap Refused w.refusal-is ∙ ap passes_reply (sym is), ap (passes_table _) (sym is))
     ]
 
