@@ -59,10 +59,6 @@ place_kept (ops bs ∷ ss) sum table m h = place_kept ss (sum + length bs) table
 place_kept (bytes bs ∷ ss) sum table m h = place_kept ss (sum + length bs) table m h
 place_kept (reference r ∷ ss) sum table m h = place_kept ss (sum + least_size r) table m h
 
--- the mark a places m exactly if it is m
-other_mark : (a m : ℕ) → eqb m a ≡ false → mark a ≡ mark m → ⊥
-other_mark a m e d = let h : m ≡ a = cc in eqb-false m a e h
-
 -- a section that places m is the mark m
 not_mark : (s : Section) (m : ℕ) → places_some (eqb m) s ≡ false → s ≡ mark m → ⊥
 not_mark s m e d = true≢false (sym (ap (places_some (eqb m)) d ∙ eq-eqb m m refl) ∙ e)

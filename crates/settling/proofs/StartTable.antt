@@ -68,17 +68,6 @@ length_place table m sum = go (eqb (entry table m) 0)
 
 module _ (table : List ℕ) (m sum : ℕ) (l : m < length table) where
   -- an entry of the table of first placings is never 0 once the mark is placed
-  pub placed_set : entry table m ≡ 0 → (false ≡ not (eqb (entry (place_mark table m sum) m) (sum + 1))) × (set table m (sum + 1) ≡ place_mark table m sum)
-  placed_set z =
-      let e : eqb (entry table m) 0 ≡ true = eq-eqb _ 0 z in
-      let s : eqb (entry (set table m (sum + 1)) m) (sum + 1) ≡ true = eq-eqb _ (sum + 1) (get_or-set_same table m (sum + 1) 0 l) in
-      rw (e, s) (refl, refl)
-
-  pub placed_kept : (entry table m ≡ 0 → ⊥) → (not (eqb (entry table m) (sum + 1)) ≡ not (eqb (entry (place_mark table m sum) m) (sum + 1))) × (table ≡ place_mark table m sum)
-  placed_kept n =
-      let e : eqb (entry table m) 0 ≡ false = ne_eqb _ 0 n in
-      rw e (refl, refl)
-
   placed_not_zero : entry (place_mark table m sum) m ≡ 0 → ⊥
   placed_not_zero = go (eqb (entry table m) 0) refl
     where

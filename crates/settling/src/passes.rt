@@ -7,6 +7,7 @@ ghost use Rattle.settling.specs.SectionWalk.{sections_of, Fitting, passes_reply,
 use crate::section::{section_words, size_of};
 use crate::{Settled, refuse};
 use records::{Assembler, kind};
+use std::mem::replace;
 use units::{MarkId, Refusal, SizeFor};
 
 const MAX_PASSES: u32 = 1024;
@@ -17,10 +18,7 @@ fn move_mark(table: &mut [u32], mark: MarkId, sum: u32) -> bool
     ensures moved { result ≡ unlike table.old «mark».0 sum }
     ensures table { table.new ≡ set table.old «mark».0 sum }
 {
-    let at = mark.0 as usize;
-    let was = table[at];
-    table[at] = sum;
-    was != sum
+    replace(&mut table[mark.0 as usize], sum) != sum
 }
 
 // The passes from a table on. Refusals: 10 too narrow, 11 unsettled, with the table all 0.

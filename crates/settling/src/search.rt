@@ -17,6 +17,7 @@ fn is_past(mark: MarkId, limit: usize) -> bool
 }
 
 // 7, for one section. It goes by kinds as `place` does, so that the two are compiled to the same branches.
+#[tactic(auto, unfolding(crate::specs::SectionWalk::short_words))]
 pub fn is_short(section: StoredSection, limit: usize) -> bool
     ensures { result ≡ short_words limit section }
 {
@@ -36,6 +37,7 @@ pub fn is_short(section: StoredSection, limit: usize) -> bool
 }
 
 // 8, 17 or 18, for one section, by the table of first placings.
+#[tactic(auto, unfolding(crate::specs::SectionWalk::unplaced_words))]
 fn is_unplaced(section: StoredSection, table: &[u32]) -> bool
     requires { MarksIn (length table.now) section }
     ensures { result ≡ unplaced_words table.now section }
@@ -78,6 +80,7 @@ pub(crate) fn first_unplaced(store: Assembler, bytes: &[u8], words: &[u32], tabl
 }
 
 // 8, 17 or 18 for the section that the search found: by its kind and, of a delta, by whether its start is placed. `tables` calls it too.
+#[tactic(auto, unfolding(crate::specs::SectionWalk::missing_words))]
 pub fn missing_refusal(section: StoredSection, start_placed: bool, at: u32) -> Refusal
     ensures { result ≡ missing_refusal (missing_words start_placed section) at }
 {
@@ -91,6 +94,7 @@ pub fn missing_refusal(section: StoredSection, start_placed: bool, at: u32) -> R
 }
 
 // 12, for one section, by the settled table.
+#[tactic(auto, unfolding(crate::specs::SectionWalk::backward_words))]
 fn is_backward(section: StoredSection, table: &[u32]) -> bool
     requires { MarksIn (length table.now) section }
     ensures { result ≡ backward_words table.now section }

@@ -43,6 +43,7 @@ fn span_length(section: StoredSection) -> u32
 }
 
 // A reference's value by the table as it is; an end below its start reads 0.
+#[tactic(auto, unfolding(crate::specs::SectionWalk::value_words))]
 fn value_of(section: StoredSection, table: &[u32]) -> u32
     requires { MarksIn (length table.now) section × (direct_kind ≤ section.kind) }
     ensures { result ≡ value_words table.now section }
@@ -51,14 +52,11 @@ fn value_of(section: StoredSection, table: &[u32]) -> u32
     if section.kind == kind::DIRECT {
         return start;
     }
-    let end = entry_of(table, MarkId(section.second));
-    if end < start {
-        return 0;
-    }
-    end - start
+    entry_of(table, MarkId(section.second)).saturating_sub(start)
 }
 
 // The least size of a section that isn't a mark.
+#[tactic(auto, unfolding(crate::specs::SectionWalk::least_words))]
 pub(crate) fn least_size(section: StoredSection) -> u32
     requires { section.kind < direct_kind → section.first ≤ section.second }
     ensures { result ≡ least_words section }
@@ -70,6 +68,7 @@ pub(crate) fn least_size(section: StoredSection) -> u32
 }
 
 // The size of a section that isn't a mark, by the table as it is; or too narrow.
+#[tactic(auto, unfolding(crate::specs::SectionWalk::size_words))]
 pub(crate) fn size_of(section: StoredSection, table: &[u32]) -> SizeFor
     requires { MarksIn (length table.now) section × (section.kind < direct_kind → section.first ≤ section.second) }
     ensures { result ≡ size_words table.now section }
