@@ -7,9 +7,9 @@ use mathlib.Core.Bool.{Bool, true, false, cond, not, ◌&&◌, ◌||◌, true≢
 use mathlib.Core.List.{List, [], ◌∷◌}
 use mathlib.Core.Logic.{◌⊎◌, inl, inr}
 use lib.Dec.{eqb, leb}
-use lib.ListN.{length, set, replicate, length-set, length-replicate, get_or, get_or-replicate}
+use lib.ListN.{length, set, replicate, length-set, length-replicate, get_or-replicate}
 use lib.Seq.{get_or-set_same, get_or-set_other}
-use borrow.Author.Tests.{eqb-true, eqb-false, eq-eqb, ne_eqb, lt-ltb, le-ltb, leb-false, leb-true, not-true, not-false}
+use borrow.Author.Tests.{eqb-true, eqb-false, eq-eqb, ne_eqb, leb-false, leb-true, not-true, not-false}
 use Rattle.std.specs.List.{list_any}
 use Rattle.std.proofs.lemmas.List.Folds.{list_any_at}
 use Rattle.units.specs.Reference.{least_size}
@@ -22,7 +22,6 @@ use Rattle.layout.specs.Conditions.{section_at, sum_of, Never, some_below, place
 use Rattle.layout.proofs.Least.{none_below, some_below_lem, never_law}
 use Rattle.layout.proofs.Moves.{width_by}
 use Rattle.slices.proofs.Tests.{or-false}
-use Rattle.slices.proofs.First.{NoneBefore, search_hit, search_done}
 use Rattle.layout.proofs.Apart.{least_before, placed_law, ApartBySums, apart_sums}
 use Rattle.settling.specs.SectionWalk.{unplaced_words, place_mark, place_from, first_sums, all_placed}
 use Rattle.settling.proofs.SectionWords.{NotMark, unplaced_words_lem}

@@ -8,7 +8,7 @@ use mathlib.Mathlib.Data.Bool.Basic.{or-eq-false-eq-eq-false-and-eq-false as bot
 use lib.Dec.{leb, ltb, eqb}
 use lib.ListN.{length}
 use lib.Seq.{length-slice}
-use borrow.Author.Tests.{leb-false, eq-eqb, ne_eqb, lt-ltb, le-ltb, le-leb, lt-leb}
+use borrow.Author.Tests.{leb-false, eq-eqb, ne_eqb, lt-ltb, le-ltb, le-leb}
 use Rattle.units.specs.Reference.{least_size, size_for}
 use Rattle.units.specs.Form.{form_number, least_by_form}
 use Rattle.units.proofs.Forms.{least_form, size_form}

@@ -1,7 +1,7 @@
 -- What the functions inside settling go by, and those of `tables` and of the writer of code: the store that they are lent, a section by its
 -- three words, the table of first placings, and the passes' reply. proofs/ has that each is what layout/specs says of the decoded sections.
 -- Assumes nothing.
-use Rattle.std.specs.Prelude.{ℕ, ◌+◌, ◌-◌, ◌≤◌, ◌<◌, ◌≡◌, Bool, false, cond, not, ◌&&◌, ◌||◌, List, [], ◌∷◌, leb, ltb, eqb, length, set, replicate}
+use Rattle.std.specs.Prelude.{Result, Ok, Err, ℕ, ◌+◌, ◌-◌, ◌≤◌, ◌<◌, ◌≡◌, Bool, false, cond, not, ◌&&◌, ◌||◌, List, [], ◌∷◌, leb, ltb, eqb, length, set, replicate}
 use Rattle.units.specs.Reference.{least_size}
 use Rattle.units.specs.Form.{least_by_form, size_by_form}
 use Rattle.units.specs.declared.SizeFor.{SizeFor}
@@ -13,10 +13,11 @@ use Rattle.records.specs.Sections.{Section, mark, ops, bytes, reference, decode}
 use Rattle.records.specs.declared.Assembler.{Assembler}
 use Rattle.records.specs.declared.record.StoredSection.{StoredSection}
 use Rattle.undamaged.specs.View.{Undamaged}
-use Rattle.layout.specs.Passes.{entry, start, Settling, settled, narrow_at, unsettled, settle}
+use Rattle.layout.specs.Passes.{entry, start, Walked, through, left_at, Settling, settled, narrow_at, unsettled, settle}
 use Rattle.layout.specs.Conditions.{Never, some_below, short_at, Missing, direct_mark, delta_start, delta_end, delta_at, first_apart}
 use Rattle.layout.specs.Answer.{Answer, settling_answer}
 use Rattle.settling.specs.declared.Settled.{Settled}
+use Rattle.settling.specs.declared.passes.Pass.{Pass}
 use Rattle.settling.specs.declared.table.Placings.{Placings}
 use Rattle.settling.specs.declared.Settled.TheVariants.{LaidOut, Refused}
 
@@ -120,7 +121,12 @@ pub record Placed (n : ℕ) (ss : List Section) (found : Placings) (table : List
 abbrev pub settled_answer : ℕ → List Section → Answer
 settled_answer n ss = settling_answer ss (settle n ss)
 
--- what they answer, 12 left out
+-- what a pass leaves, by what the code answers and the table afterwards
+abbrev pub walked : Result Pass ℕ → List ℕ → Walked
+walked (Ok p) table = through p.length p.moved table
+walked (Err i) table = left_at i
+
+-- what the passes answer, 12 left out
 abbrev pub passes_reply : Settling → Settled
 passes_reply (settled table sum k) = LaidOut sum k
 passes_reply (narrow_at i k) = Refused (Refusal.TooNarrow i k)

@@ -1,8 +1,8 @@
 // The passes: a walk over the sections in place, again until no mark moves, at most 1,024 times.
 ghost use Rattle.std.specs.Prelude.{◌≡◌, ◌<◌, length, set};
 ghost use Rattle.units.specs.Replies.{max_passes};
-ghost use Rattle.layout.specs.Passes.{unlike, passes};
-ghost use Rattle.settling.specs.SectionWalk.{sections_of, Fitting, passes_reply, passes_table};
+ghost use Rattle.layout.specs.Passes.{unlike, pass, passes};
+ghost use Rattle.settling.specs.SectionWalk.{sections_of, Fitting, walked, passes_reply, passes_table};
 
 use crate::section::{section_words, size_of};
 use crate::{Settled, refuse};
@@ -21,6 +21,34 @@ fn move_mark(table: &mut [u32], mark: MarkId, sum: u32) -> bool
     replace(&mut table[mark.0 as usize], sum) != sum
 }
 
+// What a pass comes to: the length in all; that a mark moved.
+#[derive(Clone, Copy)]
+pub(crate) struct Pass {
+    pub(crate) length: u32,
+    pub(crate) moved: bool,
+}
+
+// One pass; or the first section that is too narrow, at which it stops.
+fn make_pass(store: Assembler, bytes: &[u8], words: &[u32], table: &mut [u32]) -> Result<Pass, u32>
+    requires { Fitting store bytes.now words.now (length table.old) }
+    ensures { walked result table.new ≡ pass (sections_of store bytes.now words.now) table.old }
+{
+    let mut length: u32 = 0;
+    let mut moved = false;
+    for i in 0..store.sections {
+        let section = section_words(words, i as usize);
+        if section.kind == kind::MARK {
+            moved |= move_mark(table, MarkId(section.first), length);
+        } else {
+            let SizeFor::Bytes(size) = size_of(section, table) else {
+                return Err(i);
+            };
+            length += size;
+        }
+    }
+    Ok(Pass { length, moved })
+}
+
 // The passes from a table on. Refusals: 10 too narrow, 11 unsettled, with the table all 0.
 pub(crate) fn run_passes(
     store: Assembler,
@@ -35,31 +63,17 @@ pub(crate) fn run_passes(
         ≡ passes_table (length table.old)
         (passes max_passes 1 (sections_of store bytes.now words.now) table.old) }
 {
-    let mut refusal = Refusal::Unsettled;
-    'passes: for k in 1..=MAX_PASSES {
-        let mut sum: u32 = 0;
-        let mut moved = false;
-        for i in 0..store.sections {
-            let section = section_words(words, i as usize);
-            if section.kind == kind::MARK {
-                moved |= move_mark(table, MarkId(section.first), sum);
-            } else {
-                let SizeFor::Bytes(n) = size_of(section, table) else {
-                    refusal = Refusal::TooNarrow {
-                        section: i,
-                        passes: k,
-                    };
-                    break 'passes;
-                };
-                sum += n;
-            }
-        }
-        if !moved {
-            return Settled::LaidOut {
-                length: sum,
-                passes: k,
-            };
+    for passes in 1..=MAX_PASSES {
+        match make_pass(store, bytes, words, table) {
+            Err(section) => return refuse(table, Refusal::TooNarrow { section, passes }),
+            Ok(
+                Pass {
+                    length,
+                    moved: false,
+                },
+            ) => return Settled::LaidOut { length, passes },
+            Ok(Pass { moved: true, .. }) => {}
         }
     }
-    refuse(table, refusal)
+    refuse(table, Refusal::Unsettled)
 }
