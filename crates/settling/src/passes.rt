@@ -2,13 +2,14 @@
 ghost use Rattle.std.specs.Prelude.{◌≡◌, ◌<◌, length, set};
 ghost use Rattle.units.specs.Replies.{max_passes};
 ghost use Rattle.layout.specs.Passes.{unlike, pass, passes};
-ghost use Rattle.settling.specs.SectionWalk.{sections_of, Fitting, walked, passes_reply, passes_table};
+ghost use Rattle.settling.specs.SectionWalk.{sections_in, MarksFit, walked, passes_reply, passes_table};
 
-use crate::section::{section_words, size_of};
-use crate::{Settled, refuse};
-use records::{Assembler, kind};
+use crate::refuse;
+use crate::section::size_of;
+use records::kind;
 use std::mem::replace;
-use units::{MarkId, Refusal, SizeFor};
+use undamaged::UndamagedStore;
+use units::{LaidOut, MarkId, Refusal};
 
 const MAX_PASSES: u32 = 1024;
 
@@ -29,18 +30,18 @@ pub(crate) struct Pass {
 }
 
 // One pass; or the first section that is too narrow, at which it stops.
-fn make_pass(store: Assembler, bytes: &[u8], words: &[u32], table: &mut [u32]) -> Result<Pass, u32>
-    requires { Fitting store bytes.now words.now (length table.old) }
-    ensures { walked result table.new ≡ pass (sections_of store bytes.now words.now) table.old }
+fn make_pass(store: UndamagedStore, table: &mut [u32]) -> Result<Pass, u32>
+    requires { MarksFit (sections_in store) (length table.old) }
+    ensures { walked result table.new ≡ pass (sections_in store.entry) table.old }
 {
     let mut length: u32 = 0;
     let mut moved = false;
-    for i in 0..store.sections {
-        let section = section_words(words, i as usize);
+    for i in 0..store.counts.sections {
+        let section = store.section(i);
         if section.kind == kind::MARK {
             moved |= move_mark(table, MarkId(section.first), length);
         } else {
-            let SizeFor::Bytes(size) = size_of(section, table) else {
+            let Some(size) = size_of(section, table) else {
                 return Err(i);
             };
             length += size;
@@ -50,29 +51,24 @@ fn make_pass(store: Assembler, bytes: &[u8], words: &[u32], table: &mut [u32]) -
 }
 
 // The passes from a table on. Refusals: 10 too narrow, 11 unsettled, with the table all 0.
-pub(crate) fn run_passes(
-    store: Assembler,
-    bytes: &[u8],
-    words: &[u32],
-    table: &mut [u32],
-) -> Settled
-    requires { Fitting store bytes.now words.now (length table.old) }
+pub(crate) fn run_passes(store: UndamagedStore, table: &mut [u32]) -> Result<LaidOut, Refusal>
+    requires { MarksFit (sections_in store) (length table.old) }
     ensures reply { result
-        ≡ passes_reply (passes max_passes 1 (sections_of store bytes.now words.now) table.old) }
+        ≡ passes_reply (passes max_passes 1 (sections_in store.entry) table.old) }
     ensures table { table.new
         ≡ passes_table (length table.old)
-        (passes max_passes 1 (sections_of store bytes.now words.now) table.old) }
+        (passes max_passes 1 (sections_in store.entry) table.old) }
 {
     for passes in 1..=MAX_PASSES {
-        match make_pass(store, bytes, words, table) {
+        let pass = match make_pass(store, table) {
+            Ok(pass) => pass,
             Err(section) => return refuse(table, Refusal::TooNarrow { section, passes }),
-            Ok(
-                Pass {
-                    length,
-                    moved: false,
-                },
-            ) => return Settled::LaidOut { length, passes },
-            Ok(Pass { moved: true, .. }) => {}
+        };
+        if !pass.moved {
+            return Ok(LaidOut {
+                length: pass.length,
+                passes,
+            });
         }
     }
     refuse(table, Refusal::Unsettled)

@@ -2,11 +2,12 @@
 // there is none.
 ghost use Rattle.std.specs.Prelude.{◌≡◌, leb, length, false};
 ghost use Rattle.layout.specs.Conditions.{Never, delta_at, first_unplaced, first_backward};
-ghost use Rattle.settling.specs.SectionWalk.{sections_of, Fitting, short_words, MarksIn, unplaced_words, backward_words};
+ghost use Rattle.settling.specs.SectionWalk.{sections_in, MarksFit, short_words, MarksIn, unplaced_words, backward_words};
 ghost use Rattle.settling.specs.SectionWalk.{first_sums, all_placed, missing_words, missing_refusal};
 
-use crate::section::{entry_of, section_words};
-use records::{Assembler, StoredSection, kind};
+use crate::section::entry_of;
+use records::{StoredSection, kind};
+use undamaged::UndamagedStore;
 use units::{MarkId, Refusal};
 
 // A mark that a table of this length has no entry for.
@@ -63,20 +64,20 @@ fn all_placed(table: &[u32]) -> bool
 }
 
 // The first reference to a mark that is never placed. Where all are placed, the sections need no walk.
-pub(crate) fn first_unplaced(store: Assembler, bytes: &[u8], words: &[u32], table: &[u32]) -> u32
-    requires fitting { Fitting store bytes.now words.now (length table.now) }
-    requires table_value { table.now ≡ first_sums (length table.now) (sections_of store bytes.now words.now) }
-    ensures { result ≡ first_unplaced (sections_of store bytes.now words.now) }
+pub(crate) fn first_unplaced(store: UndamagedStore, table: &[u32]) -> u32
+    requires in_table { MarksFit (sections_in store) (length table.now) }
+    requires table_value { table.now ≡ first_sums (length table.now) (sections_in store) }
+    ensures { result ≡ first_unplaced (sections_in store.entry) }
 {
     if all_placed(table) {
-        return store.sections;
+        return store.counts.sections;
     }
-    for i in 0..store.sections {
-        if is_unplaced(section_words(words, i as usize), table) {
+    for i in 0..store.counts.sections {
+        if is_unplaced(store.section(i), table) {
             return i;
         }
     }
-    store.sections
+    store.counts.sections
 }
 
 // 8, 17 or 18 for the section that the search found: by its kind and, of a delta, by whether its start is placed. `tables` calls it too.
@@ -106,25 +107,19 @@ fn is_backward(section: StoredSection, table: &[u32]) -> bool
 }
 
 // The first delta whose end is below its start. Where there is no delta, the sections need no walk.
-pub(crate) fn first_backward(
-    store: Assembler,
-    bytes: &[u8],
-    words: &[u32],
-    table: &[u32],
-    has_delta: bool,
-) -> u32
-    requires fitting { Fitting store bytes.now words.now (length table.now) }
+pub(crate) fn first_backward(store: UndamagedStore, table: &[u32], has_delta: bool) -> u32
+    requires in_table { MarksFit (sections_in store) (length table.now) }
     requires never { has_delta ≡ false
-        → Never (sections_of store bytes.now words.now) (delta_at (sections_of store bytes.now words.now)) }
-    ensures { result ≡ first_backward table.now (sections_of store bytes.now words.now) }
+        → Never (sections_in store) (delta_at (sections_in store)) }
+    ensures { result ≡ first_backward table.now (sections_in store.entry) }
 {
     if !has_delta {
-        return store.sections;
+        return store.counts.sections;
     }
-    for i in 0..store.sections {
-        if is_backward(section_words(words, i as usize), table) {
+    for i in 0..store.counts.sections {
+        if is_backward(store.section(i), table) {
             return i;
         }
     }
-    store.sections
+    store.counts.sections
 }

@@ -2,11 +2,12 @@
 ghost use Rattle.std.specs.Prelude.{◌≡◌, cond, not, ◌+◌, ◌-◌, ◌≤◌, ◌<◌, eqb, ltb, length, replicate};
 ghost use Rattle.layout.specs.Passes.{entry};
 ghost use Rattle.layout.specs.Conditions.{Never, short_at, first_short};
-ghost use Rattle.settling.specs.SectionWalk.{sections_of, Whole, place_mark, Placed, less_one};
+ghost use Rattle.settling.specs.SectionWalk.{sections_in, place_mark, Placed, less_one};
 
 use crate::search::is_short;
-use crate::section::{least_size, section_words};
-use records::{Assembler, kind};
+use crate::section::least_size;
+use records::kind;
+use undamaged::UndamagedStore;
 use units::MarkId;
 
 // Every entry to 0.
@@ -48,20 +49,19 @@ pub(crate) struct Placings {
 }
 
 // The table of first placings. 7 and 9 are looked for on the way, so that neither needs a walk of its own.
-pub(crate) fn place(store: Assembler, bytes: &[u8], words: &[u32], table: &mut [u32]) -> Placings
-    requires whole { Whole store bytes.now words.now }
+pub(crate) fn place(store: UndamagedStore, table: &mut [u32]) -> Placings
     requires table_value { table.old ≡ replicate (length table.old) 0 }
-    ensures short { result.short ≡ first_short (length table.old) (sections_of store bytes.now words.now) }
-    ensures placed { Never (sections_of store bytes.now words.now)
-        (short_at (length table.old) (sections_of store bytes.now words.now))
-        → Placed (length table.old) (sections_of store bytes.now words.now) result table.new }
+    ensures short { result.short ≡ first_short (length table.old) (sections_in store.entry) }
+    ensures placed { Never (sections_in store.entry)
+        (short_at (length table.old) (sections_in store.entry))
+        → Placed (length table.old) (sections_in store.entry) result table.new }
 {
     let limit = table.len();
     let mut sum: u32 = 0;
-    let mut apart = store.sections;
+    let mut apart = store.counts.sections;
     let mut has_delta = false;
-    for i in 0..store.sections {
-        let section = section_words(words, i as usize);
+    for i in 0..store.counts.sections {
+        let section = store.section(i);
         if is_short(section, limit) {
             return Placings {
                 short: i,
@@ -78,7 +78,7 @@ pub(crate) fn place(store: Assembler, bytes: &[u8], words: &[u32], table: &mut [
         }
     }
     Placings {
-        short: store.sections,
+        short: store.counts.sections,
         apart,
         has_delta,
     }

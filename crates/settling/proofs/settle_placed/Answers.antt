@@ -9,9 +9,9 @@ use lib.ListN.{length, replicate}
 use Rattle.records.specs.Store.{store_of, words_per_section}
 use Rattle.records.specs.Sections.{Section}
 use Rattle.layout.specs.Passes.{Settling, settle}
-use Rattle.settling.specs.SectionWalk.{sections_of, Fitting, passes_reply, passes_table}
+use Rattle.settling.specs.SectionWalk.{sections_in, MarksFit, passes_reply, passes_table}
 use Rattle.settling.specs.Settle.{settled_reply}
-use Rattle.settling.proofs.Sections.{decode_count}
+use Rattle.settling.proofs.Sections.{sections_count}
 use Rattle.settling.proofs.SettleAnswers.{settle_is, placed_refused, placed_backward, placed_done}
 use Rattle.settling.proofs.settle_placed.Goals as goal
 use Rattle.settling.proofs.settle_placed.Goals.{After-first_backward-backward, After-less_one, After-run_passes-reply, In-LaidOut, Start}
@@ -20,14 +20,14 @@ abbrev entry : goal.After-less_one → goal.Start
 entry c = (goal.at.After-less_one c).Start
 
 abbrev sections : goal.After-less_one → List Section
-sections c = sections_of (entry c).args.store (entry c).args.bytes.now (entry c).args.words.now
+sections c = sections_in (entry c).args.store
 
 abbrev long : goal.After-less_one → ℕ
 long c = length (entry c).args.table.now
 
 -- so many sections
-count : (c : goal.After-less_one) → length (sections c) ≡ (entry c).args.store.sections
-count c = decode_count words_per_section (store_of (entry c).args.store (entry c).args.bytes.now (entry c).args.words.now)
+count : (c : goal.After-less_one) → length (sections c) ≡ (entry c).args.store.counts.sections
+count c = sections_count (entry c).args.store
 
 -- what the passes come to
 abbrev comes-to : goal.After-less_one → Settling
@@ -56,7 +56,7 @@ run c = (goal.at.In-LaidOut c).After-run_passes-reply
 pub run_passes-reply-requires : goal.run_passes-reply-requires
 run_passes-reply-requires c =
     let s = (goal.at.run_passes-reply-requires c).After-less_one in
-    subst (Fitting _ _ _) (sym s.less_one.auto.table) (entry s).requires.fitting
+    subst (MarksFit _) (sym s.less_one.auto.table) (entry s).requires.in_table
 
 pub returns-in_default : goal.returns-in_default
 returns-in_default c =
@@ -68,7 +68,7 @@ pub first_backward-backward-requires : goal.first_backward-backward-requires
 first_backward-backward-requires c =
     let r = run (goal.at.first_backward-backward-requires c).In-LaidOut in
     record {
-      fitting = subst (Fitting _ _ _) (sym (kept r)) (entry (started r)).requires.fitting;
+      in_table = subst (MarksFit _) (sym (kept r)) (entry (started r)).requires.in_table;
       never = (entry (started r)).requires.never;
     }
 

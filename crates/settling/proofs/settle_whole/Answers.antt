@@ -13,22 +13,22 @@ use Rattle.layout.specs.Conditions.{Never, short_at, first_short, unplaced_at, f
 use Rattle.layout.specs.Answer.{short_table, placed_apart, settling_answer, answer, answer_reply, answer_table}
 use Rattle.layout.proofs.Least.{none_found}
 use Rattle.layout.proofs.Answers.{short_law, unplaced_law, apart_law}
-use Rattle.settling.specs.SectionWalk.{sections_of, Fitting, first_sums, Placed}
+use Rattle.settling.specs.SectionWalk.{sections_in, MarksFit, first_sums, Placed}
 use Rattle.settling.specs.Settle.{settled_reply}
-use Rattle.settling.proofs.Sections.{decode_count}
+use Rattle.settling.proofs.Sections.{sections_count}
 use Rattle.settling.proofs.SettleAnswers.{answers_said, answers_sound}
 use Rattle.settling.proofs.settle_whole.Goals as goal
 use Rattle.settling.proofs.settle_whole.Goals.{After-first_unplaced-unplaced, After-place-found, After-struct_known-1, After-struct_known-3-1, Else-apart-store, Else-short-store, Else-unplaced-store, Start}
 
 abbrev sections : goal.Start → List Section
-sections s = sections_of s.args.store s.args.bytes.now s.args.words.now
+sections s = sections_in s.args.store
 
 abbrev long : goal.Start → ℕ
 long s = length s.args.table.now
 
 -- so many sections
-count : (s : goal.Start) → length (sections s) ≡ s.args.store.sections
-count s = decode_count words_per_section (store_of s.args.store s.args.bytes.now s.args.words.now)
+count : (s : goal.Start) → length (sections s) ≡ s.args.store.counts.sections
+count s = sections_count s.args.store
 
 -- seen from the walk of the placings; that walk seen from the test of 7, and from the search for 8, 17 or 18
 abbrev entry : goal.After-place-found → goal.Start
@@ -48,9 +48,6 @@ unfolding first_short
 never-short c =
     let p = walk (goal.at.Else-short-store c).After-struct_known-1 in
     none_found (sections (entry p)) _ _ _ p.place-found.ensures.short (count (entry p)) c.if-short-store.false
-
-fits : (c : goal.Else-short-store) → Fitting (entry (walk (goal.at.Else-short-store c).After-struct_known-1)).args.store (entry (walk (goal.at.Else-short-store c).After-struct_known-1)).args.bytes.now (entry (walk (goal.at.Else-short-store c).After-struct_known-1)).args.words.now (long (entry (walk (goal.at.Else-short-store c).After-struct_known-1)))
-fits c = record { whole = (entry (walk (goal.at.Else-short-store c).After-struct_known-1)).requires.whole; in_table = never-short c }
 
 -- the table has its length where it holds the first placings
 kept : (c : goal.After-place-found) → length c.place-found.new.table ≡ long (entry c)
@@ -95,7 +92,7 @@ first_unplaced-unplaced-requires c =
     let at-if1 = (goal.at.first_unplaced-unplaced-requires c).Else-short-store in
     let p = walk (goal.at.Else-short-store at-if1).After-struct_known-1 in
     record {
-      fitting = subst (Fitting _ _ _) (sym (kept p)) (fits at-if1);
+      in_table = subst (MarksFit _) (sym (kept p)) (never-short at-if1);
       table_value = (placed at-if1).sums ∙ ap (λ (n : ℕ). first_sums n (sections (entry p))) (sym (kept p));
     }
 
@@ -108,7 +105,7 @@ refuse_unplaced-requires c =
     let s = entry p in
     let less : found.first_unplaced-unplaced.result < length (sections s) = omega (arith, count s, at-if2.if-unplaced-store.true) in
     record {
-      fitting = subst (Fitting _ _ _) (sym (kept p)) (fits at-if1);
+      in_table = subst (MarksFit _) (sym (kept p)) (never-short at-if1);
       table_value = (placed at-if1).sums ∙ ap (λ (n : ℕ). first_sums n (sections s)) (sym (kept p));
       first = (unplaced_law _ _).0 (sym found.first_unplaced-unplaced.ensures, less);
     }
@@ -147,7 +144,7 @@ settle_placed-requires c =
     let p = walk (goal.at.Else-short-store at-if1).After-struct_known-1 in
     let ss = sections (entry p) in
     record {
-      fitting = subst (Fitting _ _ _) (sym (kept p)) (fits at-if1);
+      in_table = subst (MarksFit _) (sym (kept p)) (never-short at-if1);
       table_value = (placed at-if1).started (omega (arith, count (entry p), at-if3.if-apart-store.false)) ∙ ap (λ (n : ℕ). start-table n ss) (sym (kept p));
       never = (placed at-if1).direct;
     }

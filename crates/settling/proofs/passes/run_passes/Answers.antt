@@ -5,10 +5,11 @@ use mathlib.Core.Bool.{true, false}
 use mathlib.Core.List.{List}
 use lib.ListN.{replicate}
 use Rattle.std.proofs.Common.{rules}
+use borrow.Author.Tests.{not-true, not-false}
 use Rattle.units.specs.Replies.{max_passes}
 use Rattle.records.specs.Sections.{Section}
 use Rattle.layout.specs.Passes.{Settling, passes}
-use Rattle.settling.specs.SectionWalk.{sections_of, Fitting, passes_reply, passes_table}
+use Rattle.settling.specs.SectionWalk.{sections_in, MarksFit, passes_reply, passes_table}
 use Rattle.settling.proofs.Turns.{settles-narrow, settles-calm, settles_on, settles_out}
 use Rattle.settling.proofs.passes.run_passes.Goals as goal
 use Rattle.settling.proofs.passes.run_passes.Goals.{After-make_pass, At-loop-passes, Start}
@@ -17,7 +18,7 @@ abbrev entry : goal.At-loop-passes → goal.Start
 entry c = (goal.at.At-loop-passes c).Start
 
 abbrev sections : goal.At-loop-passes → List Section
-sections c = sections_of (entry c).args.store (entry c).args.bytes.now (entry c).args.words.now
+sections c = sections_in (entry c).args.store
 
 abbrev comes-to : goal.At-loop-passes → Settling
 comes-to c = passes max_passes 1 (sections c) (entry c).args.table.now
@@ -25,7 +26,7 @@ comes-to c = passes max_passes 1 (sections c) (entry c).args.table.now
 pub make_pass-requires : goal.make_pass-requires
 make_pass-requires c =
     let turning = (goal.at.make_pass-requires c).At-loop-passes in
-    subst (Fitting _ _ _) (sym turning.loop-passes.auto.table) (entry turning).requires
+    subst (MarksFit _) (sym turning.loop-passes.auto.table) (entry turning).requires
 
 pub returns-in-Err : goal.returns-in-Err
 returns-in-Err c =
@@ -36,18 +37,16 @@ returns-in-Err c =
       table = c.refuse.ensures.table ∙ ap (λ (n : ℕ). replicate n 0) (c.make_pass.auto.table ∙ o.loop-passes.auto.table) ∙ ap (passes_table _) (sym is);
     }
 
-pub returns-in-Ok-false : goal.returns-in-Ok-false
-returns-in-Ok-false c =
-    let o = (goal.at.returns-in-Ok-false c).At-loop-passes in
-    let calm : c.in-Ok-false.field-0.moved ≡ false = search rules in
-    let is = settles-calm (sections o) _ _ (comes-to o) c.loop-passes-test.true o.loop-passes.invariant _ _ _ c.in-Ok-false.ensures calm in
+pub returns-then-not-pass : goal.returns-then-not-pass
+returns-then-not-pass c =
+    let o = (goal.at.returns-then-not-pass c).At-loop-passes in
+    let is = settles-calm (sections o) _ _ (comes-to o) c.loop-passes-test.true o.loop-passes.invariant _ _ _ c.in-Ok.ensures (not-true _ c.if-not-pass.true) in
     record { reply = ap passes_reply (sym is); table = ap (passes_table _) (sym is) }
 
 pub loop-passes-preserved : goal.loop-passes-preserved
 loop-passes-preserved c =
     let o = (goal.at.loop-passes-preserved c).At-loop-passes in
-    let on : c.in-Ok-true.field-0.moved ≡ true = search rules in
-    settles_on (sections o) _ _ (comes-to o) c.loop-passes-test.true o.loop-passes.invariant _ _ _ c.in-Ok-true.ensures on
+    settles_on (sections o) _ _ (comes-to o) c.loop-passes-test.true o.loop-passes.invariant _ _ _ c.in-Ok.ensures (not-false _ c.if-not-pass.false)
 
 pub returns : goal.returns
 returns c =
