@@ -255,3 +255,11 @@ sums_small store i sum h l = room_small store.counts store.bytes.now store.words
 -- the marks of a section are in a table that fits all
 pub marks_fit : (n : ℕ) (ss : List Section) (i : ℕ) (x : StoredSection) → MarksFit ss n → Turn ss i x → MarksIn n x
 marks_fit n ss i x f t = marks_in n x (short_test n ss i x t ∙ f i t.below)
+
+-- its sections, where its parts are those of a store
+pub sections_same : (store : UndamagedStore) (counts : Assembler) (held words : List ℕ)
+    → (store.counts ≡ counts) × (store.bytes.now ≡ held) × (store.words.now ≡ words) → sections_in store ≡ sections_of counts held words
+sections_same store counts held words same =
+    ap (λ (x : Assembler). sections_of x store.bytes.now store.words.now) same.0
+    ∙ ap (λ (x : List ℕ). sections_of counts x store.words.now) same.1
+    ∙ ap (sections_of counts held) same.2

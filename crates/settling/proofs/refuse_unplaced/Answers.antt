@@ -8,7 +8,6 @@ use mathlib.Core.List.{List}
 use lib.Dec.{eqb}
 use lib.ListN.{length}
 use Rattle.std.specs.Prelude.{Err}
-use Rattle.records.specs.Store.{store_of, words_per_section}
 use Rattle.records.specs.Sections.{Section}
 use Rattle.layout.specs.Conditions.{Missing, missing_at}
 use Rattle.layout.specs.Answer.{unplaced}

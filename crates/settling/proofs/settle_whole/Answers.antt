@@ -6,7 +6,6 @@ use native.Mathlib.Omega.{arith}
 use mathlib.Core.Path.{◌≡◌, sym, ap, ◌∙◌, subst}
 use mathlib.Core.List.{List}
 use lib.ListN.{length, replicate}
-use Rattle.records.specs.Store.{store_of, words_per_section}
 use Rattle.records.specs.Sections.{Section}
 use Rattle.layout.specs.Passes.{start as start-table, settle}
 use Rattle.layout.specs.Conditions.{Never, short_at, first_short, unplaced_at, first_unplaced, apart_at, first_apart}

@@ -6,7 +6,6 @@ use mathlib.Core.Path.{sym, ap, ◌∙◌, subst}
 use mathlib.Core.Bool.{Bool, ◌||◌}
 use mathlib.Core.List.{List}
 use lib.ListN.{length}
-use Rattle.records.specs.Store.{store_of, words_per_section}
 use Rattle.records.specs.Sections.{Section}
 use Rattle.settling.specs.SectionWalk.{sections_in, MarksIn}
 use Rattle.settling.proofs.SectionWords.{as_mark, not_mark, ordered, size_words_lem}

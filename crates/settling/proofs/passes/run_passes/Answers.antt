@@ -1,10 +1,8 @@
 -- The invariant: the passes that are left, from the table as it is, come to the whole settling. Assumes nothing.
 use Prim.Native.Nat.{ℕ}
-use mathlib.Core.Path.{◌≡◌, sym, ap, ◌∙◌, subst}
-use mathlib.Core.Bool.{true, false}
+use mathlib.Core.Path.{sym, ap, ◌∙◌, subst}
 use mathlib.Core.List.{List}
 use lib.ListN.{replicate}
-use Rattle.std.proofs.Common.{rules}
 use borrow.Author.Tests.{not-true, not-false}
 use Rattle.units.specs.Replies.{max_passes}
 use Rattle.records.specs.Sections.{Section}

@@ -10,7 +10,6 @@ use lib.Dec.{ltb}
 use lib.ListN.{length, drop}
 use Rattle.units.specs.Reference.{least_size}
 use Rattle.records.specs.Record.{mark_kind, direct_kind}
-use Rattle.records.specs.Store.{store_of, words_per_section}
 use Rattle.records.specs.Sections.{Section}
 use Rattle.slices.specs.First.{least_from}
 use Rattle.slices.proofs.First.{NoneBefore, search_start, search_next, search_hit, search_done}
