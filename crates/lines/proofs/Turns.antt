@@ -17,24 +17,11 @@ use Rattle.evm.specs.YellowPaper.{instruction_length}
 use Rattle.evm.specs.Walk.{walk}
 use Rattle.evm.proofs.Walks.{walk_next, walk_none}
 use Rattle.lines.specs.Lines.{hex_digit, hex_byte, hex, data_line, cut_text, immediate_text, instruction_line, instruction_lines, ops_lines}
-use Rattle.lines.proofs.Puts.{Left, left_step, left_done, put_is, put_past, join}
-use Rattle.lines.proofs.Digits.{decimal_small, decimal_more}
+use Rattle.lines.specs.Sink.{added}
+use Rattle.lines.specs.declared.text.TextSink.{TextSink}
+use Rattle.lines.proofs.Sinks.{then, added_is, turn, done}
 
--- what is left, written otherwise
-left_is : {t : List ℕ} {at : ℕ} {whole now : List ℕ} {here : ℕ} {rest other : List ℕ} → rest ≡ other → Left t at whole now here rest → Left t at whole now here other
-left_is {t} {at} {whole} {now} {here} e l = subst (λ (x : List ℕ). Left t at whole now here x) e l
-
--- ---- a byte string, from its byte i on
-
-module _ {t now : List ℕ} {at here : ℕ} (added : List ℕ) (i : ℕ) where
-  pub string_turn : {m : List ℕ} {r : ℕ} → length t < 2 ^ 64 → i < length added → Left t at added now here (drop i added) → Put now here (get_or added i 0 ∷ []) r m
-      → Left t at added m r (drop (i + 1) added)
-  string_turn {m} {r} short h l p = rw (add-one i) (left_step (drop (suc i) added) short (left_is (drop-cons added i 0 h) l) p)
-
-  pub string_done : length added ≤ i → Left t at added now here (drop i added) → Put t at added here now
-  string_done h l = left_done (left_is (drop_of_length-le added h) l)
-
--- ---- bytes in hex, from i to end
+-- ---- bytes in hex, from i on
 
 -- two characters a byte
 pub hex_length : (bs : List ℕ) → length (hex bs) ≡ 2 * length bs
@@ -42,46 +29,21 @@ unfolding hex
 hex_length [] = refl
 hex_length (b ∷ bs) = omega (arith, hex_length bs)
 
--- those from start to end
-hex_count : (bs : List ℕ) (start end : ℕ) → end ≤ length bs → 2 * (end - start) ≡ length (hex (slice start end bs))
-hex_count bs start end k = omega (arith, hex_length (slice start end bs), length-slice start end bs k)
-
--- all of them
-pub hex_all : (bs : List ℕ) → hex (slice 0 (length bs) bs) ≡ hex bs
-hex_all bs = ap hex (take_all (length bs) bs (omega arith))
-
--- past the slice's end they are counted alone
-pub hex_past : {t : List ℕ} {at r : ℕ} (bs : List ℕ) (start end : ℕ) → end ≤ length bs → length t ≤ at → r ≡ place_after at (2 * (end - start)) → Put t at (hex (slice start end bs)) r t
-hex_past {at = at} bs start end k h e = put_past (hex (slice start end bs)) h (e ∙ ap (place_after at) (hex_count bs start end k))
-
 -- two digits, as the code has them
-pub hex_two : {t n m : List ℕ} {at r s : ℕ} {hi lo : ℕ} (b : ℕ) → length t < 2 ^ 64 → hi ≡ hex_digit (b / 16) → lo ≡ hex_digit (b % 16) → Put t at (hi ∷ []) r n → Put n r (lo ∷ []) s m → Put t at (hex_byte b) s m
-hex_two b short e f p q = join short (put_is (ap (λ (d : ℕ). d ∷ []) e) p) (put_is (ap (λ (d : ℕ). d ∷ []) f) q)
+pub hex_two : {s t u : TextSink} {high low : ℕ} (b : ℕ) → length s.text.now < 2 ^ 64 → high ≡ hex_digit (b / 16) → low ≡ hex_digit (b % 16)
+    → t ≡ added s (high ∷ []) → u ≡ added t (low ∷ []) → u ≡ added s (hex_byte b)
+hex_two b short e f p q = then short (added_is (ap (λ (d : ℕ). d ∷ []) e) p) (added_is (ap (λ (d : ℕ). d ∷ []) f) q)
 
-module _ {t whole now : List ℕ} {at here : ℕ} (bs : List ℕ) (i end : ℕ) (short : length t < 2 ^ 64) (h : i < end) (k : end ≤ length bs) (l : Left t at whole now here (hex (slice i end bs))) where
-  -- the first byte, and the rest
-  hex_more : hex (slice i end bs) ≡ hex_byte (get_or bs i 0) ++ hex (slice (suc i) end bs)
+module _ {r s : TextSink} {whole : List ℕ} (bs : List ℕ) (i : ℕ) where
+  -- a turn adds the first byte
+  pub hex_turn : {t : TextSink} → length r.text.now < 2 ^ 64 → i < length bs → added s (hex (drop i bs)) ≡ added r whole → t ≡ added s (hex_byte (get_or bs i 0)) → added t (hex (drop (i + 1) bs)) ≡ added r whole
   unfolding hex
-  hex_more = ap hex (slice-cons i end bs 0 h k)
+  hex_turn short h walk p = rw (add-one i) (turn short (ap hex (drop-cons bs i 0 h)) walk p)
 
-  pub hex_turn : {m : List ℕ} {r : ℕ} → Put now here (hex_byte (get_or bs i 0)) r m → Left t at whole m r (hex (slice (i + 1) end bs))
-  hex_turn {m} {r} p = rw (add-one i) (left_step (hex (slice (suc i) end bs)) short (left_is hex_more l) p)
-
-pub hex_done : {t whole now : List ℕ} {at here : ℕ} (bs : List ℕ) (i end : ℕ) → i ≤ end → end ≤ i → Left t at whole now here (hex (slice i end bs)) → Put t at whole here now
-unfolding hex
-hex_done {t} {whole} {now} {at} {here} bs i end h k l =
-    let e : i ≡ end = omega arith in
-    left_done (left_is (ap (λ (j : ℕ). hex (slice j end bs)) e ∙ ap hex (slice_empty end bs)) l)
-
--- ---- a decimal number
-
--- a number of one digit
-pub decimal_one : {t m : List ℕ} {at r : ℕ} (v : ℕ) → v < 10 → Put t at (digit v ∷ []) r m → Put t at (decimal v) r m
-decimal_one v h p = put_is (sym (decimal_small v h)) p
-
--- the others: all but the last digit, and the last
-pub decimal_then : {t n m : List ℕ} {at r s : ℕ} (v : ℕ) → length t < 2 ^ 64 → 10 ≤ v → Put t at (decimal (v / 10)) r n → Put n r (digit (v % 10) ∷ []) s m → Put t at (decimal v) s m
-decimal_then v short h p q = put_is (sym (decimal_more v h)) (join short p q)
+  -- none is left
+  pub hex_done : s.place < 2 ^ 64 → length bs ≤ i → added s (hex (drop i bs)) ≡ added r whole → s ≡ added r whole
+  unfolding hex
+  hex_done small h walk = done small (ap hex (drop_of_length-le bs h)) walk
 
 -- ---- a span cut to the bytes that there are, as the code has its ends
 
@@ -130,17 +92,6 @@ module _ (bs : List ℕ) (s e : ℕ) {b : ℕ} (end_is : b ≡ min e (length bs)
 
   pub cut_count : {a : ℕ} → a ≡ min s b → length (slice s e bs) ≡ b - a
   cut_count {a} start_is = sym (ap length (cut_part start_is)) ∙ length-slice a b bs (omega arith)
-
--- ---- a data line, where n is the count as the code has it
-
-module _ (bs : List ℕ) (n : ℕ) (counted : length bs ≡ n) where
-  -- the line with that count
-  data_is : as_bytes "  data 0x" ++ hex bs ++ as_bytes " (" ++ decimal n ++ as_bytes " bytes)\n" ≡ data_line bs
-  unfolding data_line
-  data_is = ap (λ (k : ℕ). as_bytes "  data 0x" ++ hex bs ++ as_bytes " (" ++ decimal k ++ as_bytes " bytes)\n") (sym counted)
-
-  pub data_put : {t m : List ℕ} {at r : ℕ} → Put t at (as_bytes "  data 0x" ++ hex bs ++ as_bytes " (" ++ decimal n ++ as_bytes " bytes)\n") r m → Put t at (data_line bs) r m
-  data_put p = put_is data_is p
 
 -- the first n elements of a part
 take_slice : (bs : List ℕ) (n s e : ℕ) → s + n ≤ e → e ≤ length bs → take n (slice s e bs) ≡ slice s (s + n) bs
@@ -196,12 +147,3 @@ unfolding ops_lines instruction_lines
 ops_none bs i end h k =
     let l : length (take end bs) ≤ i = rw (length-take-le end bs k) h in
     ap (λ (l : List ℕ). instruction_lines (walk l)) (drop_of_length-le (take end bs) l) ∙ ap instruction_lines walk_none
-
--- the line of an instruction, and on from the next, whose place the code has as i + n
-pub ops_turn : {t whole now m : List ℕ} {at here r : ℕ} (bs : List ℕ) (i end n : ℕ) → length t < 2 ^ 64 → i < end → end ≤ length bs → n ≡ instruction_length (get_or bs i 0)
-    → Left t at whole now here (ops_lines (slice i end bs)) → Put now here (instruction_line (placed_at bs i end)) r m → Left t at whole m r (ops_lines (slice (i + n) end bs))
-ops_turn bs i end n short h k e l p =
-    rw e (left_step (ops_lines (slice (i + instruction_length (get_or bs i 0)) end bs)) short (left_is (ops_more bs i end h k) l) p)
-
-pub ops_done : {t whole now : List ℕ} {at here : ℕ} (bs : List ℕ) (i end : ℕ) → end ≤ i → end ≤ length bs → Left t at whole now here (ops_lines (slice i end bs)) → Put t at whole here now
-ops_done bs i end h k l = left_done (left_is (ops_none bs i end h k) l)
