@@ -37,12 +37,12 @@ added_append s x y short =
     sink_is s both.text both.count
 
 -- so it is where the code adds them
-pub then : {s t u : TextSink} {x y : List ℕ} → length s.text.now < 2 ^ 64 → t ≡ added s x → u ≡ added t y → u ≡ added s (x ++ y)
-then {s} {t} {u} {x} {y} short e f = f ∙ ap (λ (k : TextSink). added k y) e ∙ added_append s x y short
+pub then : (s : TextSink) {t u : TextSink} (x y : List ℕ) → length s.text.now < 2 ^ 64 → t ≡ added s x → u ≡ added t y → u ≡ added s (x ++ y)
+then s x y short e f = f ∙ ap (λ (k : TextSink). added k y) e ∙ added_append s x y short
 
 -- what was added, written otherwise
-pub added_is : {s t : TextSink} {x y : List ℕ} → x ≡ y → t ≡ added s x → t ≡ added s y
-added_is {s} e p = p ∙ ap (added s) e
+pub added_is : (s : TextSink) {t : TextSink} {x y : List ℕ} → x ≡ y → t ≡ added s x → t ≡ added s y
+added_is s e p = p ∙ ap (added s) e
 
 -- past the text's end what is added is counted alone
 pub added_past : (s : TextSink) (x : List ℕ) {n : ℕ} → length s.text.now ≤ s.place → n ≡ place_after s.place (length x) → ◌≡◌ {A = TextSink} (record { text = s.text; place = n }) (added s x)
@@ -56,17 +56,27 @@ pub added_length : (s : TextSink) (x : List ℕ) → length (added s x).text.now
 unfolding added
 added_length s x = length-sets s.text.now s.place x
 
+-- and its place is a number of the machine
+pub added_then : (s : TextSink) {t : TextSink} (x : List ℕ) → t ≡ added s x → t.place < 2 ^ 64
+unfolding added
+added_then s x p = omega (arith, ap (λ (k : TextSink). k.place) p)
+
+-- a text that is added to an empty sink is counted
+pub counted_small : (s : TextSink) {t : TextSink} (x : List ℕ) → length x < 2 ^ 64 → s.place ≡ 0 → t ≡ added s x → t.place ≡ length x
+unfolding added
+counted_small s x h start p = omega (arith, ap (λ (k : TextSink). k.place) p)
+
 -- ---- a walk, begun at r with a whole text
 
-module _ {r : TextSink} {whole : List ℕ} {s : TextSink} where
+module _ (r : TextSink) (whole : List ℕ) (s : TextSink) where
   -- the text is as long as it was
-  pub walk_short : {left : List ℕ} → length r.text.now < 2 ^ 64 → added s left ≡ added r whole → length s.text.now < 2 ^ 64
-  walk_short {left} short walk = omega (arith, added_length s left, added_length r whole, ap (λ (k : TextSink). length k.text.now) walk)
+  pub walk_short : (left : List ℕ) → length r.text.now < 2 ^ 64 → added s left ≡ added r whole → length s.text.now < 2 ^ 64
+  walk_short left short walk = omega (arith, added_length s left, added_length r whole, ap (λ (k : TextSink). length k.text.now) walk)
 
   -- a turn adds the first of what is left
-  pub turn : {t : TextSink} {x rest left : List ℕ} → length r.text.now < 2 ^ 64 → left ≡ x ++ rest → added s left ≡ added r whole → t ≡ added s x → added t rest ≡ added r whole
-  turn short split walk p =
-      then (walk_short short walk) p refl ∙ ap (added s) (sym split) ∙ walk
+  pub turn : {t : TextSink} (x rest : List ℕ) {left : List ℕ} → length r.text.now < 2 ^ 64 → left ≡ x ++ rest → added s left ≡ added r whole → t ≡ added s x → added t rest ≡ added r whole
+  turn x rest {left} short split walk p =
+      then s x rest (walk_short left short walk) p refl ∙ ap (added s) (sym split) ∙ walk
 
   -- it ends with nothing left
   pub done : {rest : List ℕ} → s.place < 2 ^ 64 → rest ≡ [] → added s rest ≡ added r whole → s ≡ added r whole

@@ -8,9 +8,10 @@ use mathlib.Core.Bool.{Bool, true, false}
 use mathlib.Core.List.{List, [], ◌∷◌, ◌++◌, append-nil}
 use lib.ListN.{length, get_or, take, drop, drop_of_length-le}
 use lib.Seq.{slice, drop-cons, slice-cons, slice_empty, length-slice, take_all, length-take-le, drop_at, take-add, take-take, drop-drop}
+use Rattle.std.proofs.lemmas.List.{drop-take}
 use lib.Dec.{ltb, eqb}
 use borrow.Author.Tests.{lt-ltb, le-ltb, ltb-true, ltb-false, ne_eqb}
-use Rattle.lines.specs.Put.{place_after, Put, immediate_at, placed_at}
+use Rattle.lines.specs.Put.{immediate_at, placed_at, first_placed}
 use Rattle.lines.specs.Decimal.{digit, decimal}
 use Rattle.opcodes.specs.Text.{as_bytes}
 use Rattle.evm.specs.YellowPaper.{instruction_length}
@@ -30,20 +31,26 @@ hex_length [] = refl
 hex_length (b ∷ bs) = omega (arith, hex_length bs)
 
 -- two digits, as the code has them
-pub hex_two : {s t u : TextSink} {high low : ℕ} (b : ℕ) → length s.text.now < 2 ^ 64 → high ≡ hex_digit (b / 16) → low ≡ hex_digit (b % 16)
+pub hex_two : (s : TextSink) {t u : TextSink} {high low : ℕ} (b : ℕ) → length s.text.now < 2 ^ 64 → high ≡ hex_digit (b / 16) → low ≡ hex_digit (b % 16)
     → t ≡ added s (high ∷ []) → u ≡ added t (low ∷ []) → u ≡ added s (hex_byte b)
-hex_two b short e f p q = then short (added_is (ap (λ (d : ℕ). d ∷ []) e) p) (added_is (ap (λ (d : ℕ). d ∷ []) f) q)
+hex_two s b short e f p q = then s _ _ short (added_is s (ap (λ (d : ℕ). d ∷ []) e) p) (added_is _ (ap (λ (d : ℕ). d ∷ []) f) q)
 
-module _ {r s : TextSink} {whole : List ℕ} (bs : List ℕ) (i : ℕ) where
+module _ (r : TextSink) (whole : List ℕ) (s : TextSink) (bs : List ℕ) (i : ℕ) where
   -- a turn adds the first byte
   pub hex_turn : {t : TextSink} → length r.text.now < 2 ^ 64 → i < length bs → added s (hex (drop i bs)) ≡ added r whole → t ≡ added s (hex_byte (get_or bs i 0)) → added t (hex (drop (i + 1) bs)) ≡ added r whole
   unfolding hex
-  hex_turn short h walk p = rw (add-one i) (turn short (ap hex (drop-cons bs i 0 h)) walk p)
+  hex_turn short h left p = rw (add-one i) (turn r whole s _ _ short (ap hex (drop-cons bs i 0 h)) left p)
 
   -- none is left
   pub hex_done : s.place < 2 ^ 64 → length bs ≤ i → added s (hex (drop i bs)) ≡ added r whole → s ≡ added r whole
   unfolding hex
-  hex_done small h walk = done small (ap hex (drop_of_length-le bs h)) walk
+  hex_done small h left = done r whole s small (ap hex (drop_of_length-le bs h)) left
+
+-- a part as the code has it, from s to e
+pub part_is : (bs : List ℕ) (s e : ℕ) → s ≤ e → take (e - s) (drop s bs) ≡ slice s e bs
+part_is bs s e h =
+    let there : s + (e - s) ≡ e = omega arith in
+    sym (drop-take s (e - s) bs) ∙ ap (λ (k : ℕ). slice s k bs) there
 
 -- ---- a span cut to the bytes that there are, as the code has its ends
 
@@ -100,28 +107,39 @@ take_slice bs n s e h k =
     let a : length (take s l) ≡ s = length-take-le s l (rw (length-take-le e bs k) (omega arith)) in
     sym (drop_at (take s l) (take n (drop s l)) s a) ∙ ap (drop s) (sym (take-add s n l) ∙ take-take (s + n) e bs h)
 
--- ---- an immediate of n bytes from s on, in a run that ends at e
+-- ---- an immediate of n bytes, where the rest of the section is r
 
-module _ (bs : List ℕ) (n s e : ℕ) (some : 0 < n) (ordered : s ≤ e) (within : e ≤ length bs) where
-  -- cut: the run has fewer
-  pub immediate_cut : e - s < n → as_bytes " 0x" ++ hex (slice s e bs) ++ as_bytes " (truncated)" ≡ immediate_at bs n s e
+module _ (n : ℕ) (r : List ℕ) (some : 0 < n) where
+  -- cut: the rest is shorter
+  pub immediate_short : length r < n → as_bytes " 0x" ++ hex r ++ as_bytes " (truncated)" ≡ immediate_text n (take n r)
   unfolding immediate_text cut_text
-  immediate_cut h =
-      let l : length (slice s e bs) ≡ e - s = length-slice s e bs within in
-      let a : take n (slice s e bs) ≡ slice s e bs = take_all n (slice s e bs) (omega arith) in
+  immediate_short h =
+      let a : take n r ≡ r = take_all n r (omega arith) in
       let z : eqb n 0 ≡ false = ne_eqb n 0 (omega arith) in
-      let t : ltb (e - s) n ≡ true = lt-ltb (e - s) n h in
-      rw (a, z, l, t)
+      let t : ltb (length r) n ≡ true = lt-ltb (length r) n h in
+      rw (a, z, t)
 
   -- whole
-  pub immediate_whole : n ≤ e - s → as_bytes " 0x" ++ hex (slice s (s + n) bs) ≡ immediate_at bs n s e
+  pub immediate_full : n ≤ length r → as_bytes " 0x" ++ hex (take n r) ≡ immediate_text n (take n r)
   unfolding immediate_text cut_text
-  immediate_whole h =
-      let l : length (slice s (s + n) bs) ≡ n = length-slice s (s + n) bs (omega arith) ∙ omega arith in
-      let a : take n (slice s e bs) ≡ slice s (s + n) bs = take_slice bs n s e (omega arith) within in
+  immediate_full h =
+      let l : length (take n r) ≡ n = length-take-le n r h in
       let z : eqb n 0 ≡ false = ne_eqb n 0 (omega arith) in
       let t : ltb n n ≡ false = le-ltb n n (omega arith) in
-      rw (a, z, l, t, append-nil)
+      rw (l, z, t, append-nil)
+
+-- the same, from s on in a run that ends at e
+module _ (bs : List ℕ) (n s e : ℕ) (some : 0 < n) (ordered : s ≤ e) (within : e ≤ length bs) where
+  run_length : length (slice s e bs) ≡ e - s
+  run_length = length-slice s e bs within
+
+  pub immediate_cut : e - s < n → as_bytes " 0x" ++ hex (slice s e bs) ++ as_bytes " (truncated)" ≡ immediate_at bs n s e
+  immediate_cut h = immediate_short n (slice s e bs) some (omega (arith, run_length))
+
+  pub immediate_whole : n ≤ e - s → as_bytes " 0x" ++ hex (slice s (s + n) bs) ≡ immediate_at bs n s e
+  immediate_whole h =
+      let a : take n (slice s e bs) ≡ slice s (s + n) bs = take_slice bs n s e (omega arith) within in
+      rw (← a) (immediate_full n (slice s e bs) some (omega (arith, run_length)))
 
 -- an opcode without one
 pub immediate_none : (n : ℕ) (x : List ℕ) → n ≡ 0 → [] ≡ immediate_text n x
@@ -147,3 +165,28 @@ unfolding ops_lines instruction_lines
 ops_none bs i end h k =
     let l : length (take end bs) ≤ i = rw (length-take-le end bs k) h in
     ap (λ (l : List ℕ). instruction_lines (walk l)) (drop_of_length-le (take end bs) l) ∙ ap instruction_lines walk_none
+
+-- a run's first instruction, and those of the rest
+pub lines_next : (code : List ℕ) → 0 < length code → ops_lines code ≡ instruction_line (first_placed code) ++ ops_lines (drop (instruction_length (get_or code 0 0)) code)
+unfolding ops_lines instruction_lines
+lines_next [] h = absurd (omega arith)
+lines_next (op ∷ rest) h = ap instruction_lines (walk_next op rest)
+
+-- a walk of them, from i to end
+module _ (r : TextSink) (whole : List ℕ) (s : TextSink) (bs : List ℕ) (i end : ℕ) (within : end ≤ length bs) where
+  -- a turn adds the first instruction's line, and goes on at the next, whose place the code has as i + n
+  pub ops_turn : {t : TextSink} (n : ℕ) → length r.text.now < 2 ^ 64 → i < end → n ≡ instruction_length (get_or (take (end - i) (drop i bs)) 0 0)
+      → added s (ops_lines (slice i end bs)) ≡ added r whole → t ≡ added s (instruction_line (first_placed (take (end - i) (drop i bs))))
+      → added t (ops_lines (slice (i + n) end bs)) ≡ added r whole
+  ops_turn n short h was left put =
+      let code : List ℕ = slice i end bs in
+      let part : take (end - i) (drop i bs) ≡ code = part_is bs i end (omega arith) in
+      let e = rw part at was in
+      let p = rw part at put in
+      let some : 0 < length code = omega (arith, length-slice i end bs within) in
+      let next : drop (instruction_length (get_or code 0 0)) code ≡ slice (i + n) end bs = ap (λ (k : ℕ). drop k code) (sym e) ∙ drop-drop n i (take end bs) in
+      turn r whole s _ _ short (lines_next code some ∙ ap (λ (l : List ℕ). instruction_line (first_placed code) ++ ops_lines l) next) left p
+
+  -- none is left
+  pub ops_done : s.place < 2 ^ 64 → end ≤ i → added s (ops_lines (slice i end bs)) ≡ added r whole → s ≡ added r whole
+  ops_done small h left = done r whole s small (ops_none bs i end h within) left

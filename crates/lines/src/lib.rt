@@ -13,7 +13,7 @@ ghost use Rattle.lines.specs.Lines.{push_text, delta_text, marks_text, size_text
 ghost use Rattle.lines.specs.Sink.{added};
 
 pub use text::{TextSink, write_decimal, write_hex};
-use units::{AsmReference, BytesSpan, MarkId, MarkReference, MarkSpan, SetSize};
+use units::{AsmBytesIdx, AsmReference, MarkId, MarkReference, RefSize, Span};
 
 impl<'a> TextSink<'a> {
     // `.mark7`
@@ -33,11 +33,11 @@ impl<'a> TextSink<'a> {
     }
 
     // `  data 0xaabb (2 bytes)`, of the bytes that there are between the span's ends
-    pub fn put_data_line(&mut self, bytes: &[u8], span: BytesSpan)
+    pub fn put_data_line(&mut self, bytes: &[u8], span: Span<AsmBytesIdx>)
         ensures { self.new ≡ added self.old (data_line (span_bytes bytes.now span)) }
     {
-        let end = bytes.len().min(span.end.0 as usize);
-        let start = end.min(span.start.0 as usize);
+        let end = (span.end.0 as usize).min(bytes.len());
+        let start = (span.start.0 as usize).min(end);
         self.put(b"  data 0x");
         self.put_hex(&bytes[start..end]);
         self.put(b" (");
@@ -57,7 +57,7 @@ impl<'a> TextSink<'a> {
     }
 
     // `(.mark1 - .mark0)`, the end first
-    fn put_delta(&mut self, span: MarkSpan)
+    fn put_delta(&mut self, span: Span<MarkId>)
         ensures { self.new ≡ added self.old (delta_text span) }
     {
         self.put(b"(");
@@ -78,14 +78,16 @@ impl<'a> TextSink<'a> {
     }
 
     // `:2`, or nothing if unsized
-    fn put_size(&mut self, set_size: SetSize)
+    fn put_size(&mut self, set_size: Option<RefSize>)
         ensures { self.new ≡ added self.old (size_text set_size) }
     {
-        let SetSize::Sized(size) = set_size else {
-            return;
-        };
-        self.put(b":");
-        self.put_decimal(size.bytes());
+        match set_size {
+            Some(size) => {
+                self.put(b":");
+                self.put_decimal(size.bytes());
+            }
+            None => self.put(b""),
+        }
     }
 
     // `  PUSH .mark1` or `  RAW (.mark1 - .mark0):2`

@@ -8,8 +8,7 @@ ghost use Rattle.lines.specs.Sink.{added};
 
 use crate::TextSink;
 use evm::op;
-use evm::op::PushSize;
-use units::BytesSpan;
+use units::{AsmBytesIdx, Span};
 
 impl<'a> TextSink<'a> {
     // ` 0x0102`, of a push of so many bytes before the rest of its section; cut where the section ends, ` 0x01 (truncated)`.
@@ -30,11 +29,10 @@ impl<'a> TextSink<'a> {
     fn put_operand(&mut self, opcode: u8, rest: &[u8])
         ensures { self.new ≡ added self.old (immediate_text (push_size opcode) (take (push_size opcode) rest.now)) }
     {
-        let push_size = op::push_size(opcode);
-        let PushSize::Bytes(size) = push_size else {
-            return;
-        };
-        self.put_immediate(size as usize, rest);
+        match op::push_size(opcode) {
+            Some(size) => self.put_immediate(size as usize, rest),
+            None => self.put(b""),
+        }
     }
 
     // `  JUMPDEST`, `  PUSH2 0x0102`, `  PUSH2 0x01 (truncated)`: the first instruction of what is left of a section.
@@ -50,10 +48,10 @@ impl<'a> TextSink<'a> {
     }
 
     // A line for each instruction of an Ops section, of the bytes that there are between the span's ends.
-    pub fn put_ops_lines(&mut self, bytes: &[u8], span: BytesSpan)
+    pub fn put_ops_lines(&mut self, bytes: &[u8], span: Span<AsmBytesIdx>)
         ensures { self.new ≡ added self.old (ops_lines (span_bytes bytes.now span)) }
     {
-        let end = bytes.len().min(span.end.0 as usize);
+        let end = (span.end.0 as usize).min(bytes.len());
         let mut i = span.start.0 as usize;
         // Kept: a turn steps by an instruction's length, which no iterator of the library does.
         while i < end {

@@ -14,4 +14,4 @@ returns-then-value-lt10 t c = rw (decimal_small c.args.value c.if-value-lt10.tru
 pub returns-else-value-lt10 : goal.returns-else-value-lt10
 returns-else-value-lt10 t c =
     let short : length c.args.self.now.text.now < 2 ^ 64 = omega arith in
-    rw (decimal_more c.args.value c.if-value-lt10.false) (then short c.put_decimal.ensures c.put_byte-else-value-lt10.ensures)
+    rw (decimal_more c.args.value c.if-value-lt10.false) (then _ _ _ short c.put_decimal.ensures c.put_byte-else-value-lt10.ensures)

@@ -11,4 +11,4 @@ pub returns : goal.returns
 unfolding mark_name as_bytes
 returns c =
     let short : length c.args.self.now.text.now < 2 ^ 64 = omega arith in
-    then short c.put.ensures c.put_decimal.ensures
+    then _ _ _ short c.put.ensures c.put_decimal.ensures
