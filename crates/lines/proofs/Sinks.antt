@@ -1,12 +1,12 @@
 -- Laws of adding text to a sink: nothing added, two texts in a row, a text past the end; and a walk, at every turn of which adding what
 -- is left gives the same sink. Assumes nothing.
-use Prim.Native.Nat.{ℕ, ◌+◌, ◌≤◌, ◌<◌, ◌^◌}
+use Prim.Native.Nat.{ℕ, ◌≤◌, ◌<◌, ◌^◌}
 use native.Mathlib.Omega.{arith}
 use mathlib.Core.Path.{◌≡◌, refl, sym, ap, ◌∙◌}
-use mathlib.Core.List.{List, [], ◌∷◌, ◌++◌}
+use mathlib.Core.List.{List, [], ◌++◌}
 use lib.ListN.{length}
-use lib.Seq.{sets, length-sets}
-use denote.Ref.{at_last, MutBor}
+use lib.Seq.{length-sets}
+use denote.Ref.{at_last}
 use Rattle.lines.specs.Put.{place_after, Put}
 use Rattle.lines.specs.Sink.{added}
 use Rattle.lines.specs.declared.text.TextSink.{TextSink}

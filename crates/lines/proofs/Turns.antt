@@ -1,23 +1,23 @@
 -- Laws of what the functions put: of each loop's turn, what is left after it, and at the end that nothing is; of a number, a data line and
 -- an immediate, that their parts are the whole; of a span, that it may be cut to the bytes that there are. Assumes nothing.
-use Prim.Native.Nat.{ℕ, suc, ◌+◌, ◌*◌, ◌-◌, ◌/◌, ◌%◌, ◌≤◌, ◌<◌, ◌^◌, min}
+use Prim.Native.Nat.{ℕ, ◌+◌, ◌*◌, ◌-◌, ◌/◌, ◌%◌, ◌≤◌, ◌<◌, ◌^◌, min}
 use native.Mathlib.Omega.{arith}
 use native.Mathlib.Numerals.{add-one}
-use mathlib.Core.Path.{◌≡◌, refl, sym, ap, ◌∙◌, subst}
+use mathlib.Core.Path.{◌≡◌, refl, sym, ap, ◌∙◌}
 use mathlib.Core.Bool.{Bool, true, false}
 use mathlib.Core.List.{List, [], ◌∷◌, ◌++◌, append-nil}
 use lib.ListN.{length, get_or, take, drop, drop_of_length-le}
-use lib.Seq.{slice, drop-cons, slice-cons, slice_empty, length-slice, take_all, length-take-le, drop_at, take-add, take-take, drop-drop}
+use lib.Seq.{slice, drop-cons, slice-cons, length-slice, take_all, length-take-le, drop_at, take-add, take-take, drop-drop}
 use Rattle.std.proofs.lemmas.List.{drop-take}
 use lib.Dec.{ltb, eqb}
 use borrow.Author.Tests.{lt-ltb, le-ltb, ltb-true, ltb-false, ne_eqb}
 use Rattle.lines.specs.Put.{immediate_at, placed_at, first_placed}
-use Rattle.lines.specs.Decimal.{digit, decimal}
 use Rattle.opcodes.specs.Text.{as_bytes}
 use Rattle.evm.specs.YellowPaper.{instruction_length}
 use Rattle.evm.specs.Walk.{walk}
+use Rattle.evm.proofs.Opcodes.{length_bounds}
 use Rattle.evm.proofs.Walks.{walk_next, walk_none}
-use Rattle.lines.specs.Lines.{hex_digit, hex_byte, hex, data_line, cut_text, immediate_text, instruction_line, instruction_lines, ops_lines}
+use Rattle.lines.specs.Lines.{hex_digit, hex_byte, hex, cut_text, immediate_text, instruction_line, instruction_lines, ops_lines}
 use Rattle.lines.specs.Sink.{added}
 use Rattle.lines.specs.declared.text.TextSink.{TextSink}
 use Rattle.lines.proofs.Sinks.{then, added_is, turn, done}
@@ -171,6 +171,10 @@ pub lines_next : (code : List ℕ) → 0 < length code → ops_lines code ≡ in
 unfolding ops_lines instruction_lines
 lines_next [] h = absurd (omega arith)
 lines_next (op ∷ rest) h = ap instruction_lines (walk_next op rest)
+
+-- an instruction is 1 to 33 bytes long, as the code has it
+pub steps : (op : ℕ) {n : ℕ} → n ≡ instruction_length op → (0 < n) × (n ≤ 33)
+steps op e = omega (arith, length_bounds op)
 
 -- a walk of them, from i to end
 module _ (r : TextSink) (whole : List ℕ) (s : TextSink) (bs : List ℕ) (i end : ℕ) (within : end ≤ length bs) where

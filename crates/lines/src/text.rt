@@ -2,6 +2,7 @@
 // text's end are counted, as far as a usize goes, and not stored. The two public writers at the end put all or nothing.
 ghost use Rattle.std.specs.Prelude.{◌≡◌, [], ◌∷◌, ◌<◌, length};
 ghost use Rattle.slices.specs.Over.{over_if_room};
+ghost use Rattle.lines.specs.Put.{place_after};
 ghost use Rattle.lines.specs.Decimal.{decimal};
 ghost use Rattle.lines.specs.Lines.{hex_digit, hex};
 ghost use Rattle.lines.specs.Sink.{added};
@@ -28,6 +29,13 @@ impl<'a> TextSink<'a> {
         self.place
     }
 
+    // The place so many bytes on, or the last that a usize has.
+    fn place_after(&self, count: usize) -> usize
+        ensures { result ≡ place_after self.now.place count }
+    {
+        self.place.saturating_add(count)
+    }
+
     // One byte.
     #[tactic(auto, unfolding(crate::specs::Sink::added))]
     fn put_byte(&mut self, byte: u8)
@@ -36,7 +44,7 @@ impl<'a> TextSink<'a> {
         if self.place < self.text.len() {
             self.text[self.place] = byte;
         }
-        self.place = self.place.saturating_add(1);
+        self.place = self.place_after(1);
     }
 
     // A byte string, counted at once where no byte of it can be stored.
@@ -45,7 +53,7 @@ impl<'a> TextSink<'a> {
         ensures { self.new ≡ added self.old bytes.now }
     {
         if self.text.len() <= self.place {
-            self.place = self.place.saturating_add(bytes.len());
+            self.place = self.place_after(bytes.len());
             return;
         }
         for &byte in bytes {
@@ -58,7 +66,7 @@ impl<'a> TextSink<'a> {
         ensures { self.new ≡ added self.old (hex bytes.now) }
     {
         if self.text.len() <= self.place {
-            self.place = self.place.saturating_add(2 * bytes.len());
+            self.place = self.place_after(2 * bytes.len());
             return;
         }
         for &byte in bytes {

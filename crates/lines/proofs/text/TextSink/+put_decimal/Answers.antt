@@ -1,9 +1,7 @@
 -- By recursion, as the definition goes. Assumes nothing.
 use Prim.Native.Nat.{◌<◌, ◌^◌}
 use native.Mathlib.Omega.{arith}
-use mathlib.Core.Path.{sym, ap, ◌∙◌}
 use lib.ListN.{length}
-use Rattle.lines.specs.Sink.{added}
 use Rattle.lines.proofs.Digits.{decimal_small, decimal_more}
 use Rattle.lines.proofs.Sinks.{then}
 use Rattle.lines.proofs.text.TextSink.+put_decimal.Goals as goal

@@ -3,4 +3,4 @@ use Rattle.lines.proofs.Sinks.{added_past}
 use Rattle.lines.proofs.text.TextSink.put.Goals as goal
 
 pub returns-then-self : goal.returns-then-self
-returns-then-self c = added_past _ _ c.if-self.true c.saturating_add-self.ensures
+returns-then-self c = added_past _ _ c.if-self.true c.place_after-self.ensures

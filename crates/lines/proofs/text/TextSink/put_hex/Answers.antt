@@ -7,7 +7,7 @@ use Rattle.lines.proofs.Turns.{hex_length, hex_two, hex_turn, hex_done}
 use Rattle.lines.proofs.text.TextSink.put_hex.Goals as goal
 
 pub returns-then-self : goal.returns-then-self
-returns-then-self c = added_past _ _ c.if-self.true (omega (arith, c.saturating_add-self.ensures, hex_length c.args.bytes.now))
+returns-then-self c = added_past _ _ c.if-self.true (omega (arith, c.place_after-self.ensures, hex_length c.args.bytes.now))
 
 pub loop-byte-preserved : goal.loop-byte-preserved
 loop-byte-preserved c =

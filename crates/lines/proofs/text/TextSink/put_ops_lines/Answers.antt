@@ -1,21 +1,18 @@
 -- A turn adds the first line of what is left. An instruction is 1 to 33 bytes long. Assumes nothing.
-use Prim.Native.Nat.{◌-◌, ◌≤◌, ◌<◌, ◌^◌}
+use Prim.Native.Nat.{◌≤◌, ◌<◌, ◌^◌}
 use native.Mathlib.Omega.{arith}
 use lib.ListN.{length}
-use lib.ListN.{get_or, take, drop}
 use mathlib.Core.Path.{ap}
-use Rattle.evm.proofs.Opcodes.{length_bounds}
 use Rattle.lines.specs.Lines.{ops_lines}
-use Rattle.lines.specs.Sink.{added}
 use Rattle.lines.proofs.Sinks.{added_then, added_is}
-use Rattle.lines.proofs.Turns.{cut_end, ops_turn, ops_done}
+use Rattle.lines.proofs.Turns.{steps, cut_end, ops_turn, ops_done}
 use Rattle.lines.proofs.text.TextSink.put_ops_lines.Goals as goal
 
 pub overflow_add-i : goal.overflow_add-i
-overflow_add-i c = omega (arith, c.instruction_length-i.ensures, length_bounds (get_or (take (c.min-end.result - c.loop-i.i) (drop c.loop-i.i c.args.bytes.now)) 0 0), c.min-end.ensures, c.loop-i-test.true)
+overflow_add-i c = omega (arith, steps _ c.instruction_length-i.ensures, c.min-end.ensures, c.loop-i-test.true)
 
 pub loop-i-smaller : goal.loop-i-smaller
-loop-i-smaller c = omega (arith, c.instruction_length-i.ensures, length_bounds (get_or (take (c.min-end.result - c.loop-i.i) (drop c.loop-i.i c.args.bytes.now)) 0 0), c.loop-i-test.true)
+loop-i-smaller c = omega (arith, steps _ c.instruction_length-i.ensures, c.loop-i-test.true)
 
 pub loop-i-preserved : goal.loop-i-preserved
 loop-i-preserved c =
