@@ -10,8 +10,8 @@ ghost use Rattle.lines.specs.Sink.{added};
 // A lent text, and the place in it where the next byte goes.
 #[derive(Drop)]
 pub struct TextSink<'a> {
-    text: &'a mut [u8],
-    place: usize,
+    pub(crate) text: &'a mut [u8],
+    pub(crate) place: usize,
 }
 
 impl<'a> TextSink<'a> {
