@@ -11,6 +11,8 @@ use Rattle.records.specs.Record.{read_section}
 use Rattle.records.specs.Store.{Store, store_of, section_words}
 use Rattle.records.specs.Sections.{section_read, decode_at, decode_from, decode}
 use Rattle.records.specs.declared.record.StoredSection.{StoredSection}
+use Rattle.std.specs.Prelude.{Result, Ok, IfOk}
+use Rattle.records.specs.declared.damage.Damage.{Damage}
 use Rattle.records.specs.declared.Assembler.{Assembler}
 use Rattle.undamaged.specs.declared.store.UndamagedStore.{UndamagedStore}
 use Rattle.undamaged.specs.View.{Undamaged, Facts}
@@ -96,6 +98,8 @@ store_room w st u = record { fits = omega (arith, listing_short w st ((undamaged
 -- ---- the store that the code has
 
 -- it is the one that was tested
-pub store_same : (store : UndamagedStore) (counts : Assembler) (bytes words : List ℕ) → (store.counts ≡ counts) × (store.bytes.now ≡ bytes) × (store.words.now ≡ words)
-    → store_in store ≡ store_of counts bytes words
-store_same store counts bytes words (sections, same_bytes, same_words) = λ i. store_of (sections i) (same_bytes i) (same_words i)
+pub store_same : (tested : Result UndamagedStore Damage) (store : UndamagedStore) (counts : Assembler) (bytes words : List ℕ)
+    → IfOk tested (λ s. (s.counts ≡ counts) × (s.bytes.now ≡ bytes) × (s.words.now ≡ words)) → tested ≡ Ok store → store_in store ≡ store_of counts bytes words
+store_same tested store counts bytes words is was =
+    let same : (store.counts ≡ counts) × (store.bytes.now ≡ bytes) × (store.words.now ≡ words) = subst (λ (r : Result UndamagedStore Damage). IfOk r (λ s. (s.counts ≡ counts) × (s.bytes.now ≡ bytes) × (s.words.now ≡ words))) was is in
+    λ i. store_of (same.0 i) (same.1 i) (same.2 i)
