@@ -1,32 +1,32 @@
 -- One turn of the walks over a store: where a section's marks are in the map, and what 7, 16 and 10 say of the section whose words were
 -- read. Assumes nothing.
-use Rattle.std.specs.Prelude.{None, Option, Some}
-use Prim.Native.Nat.{ℕ, ◌+◌, ◌*◌, ◌≤◌, ◌<◌}
+use Prim.Native.Nat.{ℕ, ◌+◌, ◌*◌, ◌<◌}
 use native.Mathlib.Omega.{arith}
 use mathlib.Core.Path.{◌≡◌, refl, sym, ◌∙◌, ap, subst}
 use mathlib.Core.Bool.{Bool, true, false, not, ◌||◌, true≢false}
 use mathlib.Core.List.{List}
-use mathlib.Core.Logic.{◌⊎◌, inl, inr}
 use lib.ListN.{length}
 use borrow.Author.Tests.{eq-eqb, ne_eqb}
+use Rattle.std.proofs.Common.{Option, Some, None}
+use Rattle.slices.proofs.First.{NoneBefore, search_next}
 use Rattle.records.specs.declared.record.AsmSection.{AsmSection}
 use Rattle.units.proofs.Forms.{size_found, narrow_found}
-use Rattle.records.specs.Record.{max_mark, read_section}
+use Rattle.records.specs.Record.{read_section}
 use Rattle.records.specs.Damage.{unreadable}
 use Rattle.records.specs.Store.{store_of, words_per_section, words_at}
 use Rattle.records.specs.Sections.{Section, mark, ops, bytes, reference}
-use Rattle.records.specs.declared.Assembler.{Assembler}
+use Rattle.undamaged.specs.declared.store.UndamagedStore.{UndamagedStore}
 use Rattle.records.specs.declared.record.StoredSection.{StoredSection}
 use Rattle.undamaged.proofs.Soundness.{undamaged_iff}
 use Rattle.undamaged.proofs.Reading.{Reads, is_damaged_lem, is_mark, is_ops_lem, is_data, is_direct, is_delta_lem, reads}
 use Rattle.layout.specs.Passes.{entry, value_by, size_by, unlike}
 use Rattle.layout.specs.Conditions.{section_at, places_some, short_at, backward_at}
-use Rattle.settling.specs.SectionWalk.{Whole, MarksIn}
+use Rattle.settling.specs.SectionWalk.{MarksIn}
 use Rattle.settling.proofs.SectionWords.{size_section, NotMark}
 use Rattle.settling.proofs.Sections.{sum_next}
 use Rattle.tables.specs.MarkMap.{Covers}
 use Rattle.tables.specs.TableTests.{sum_before, differs_at, narrow_by, too_narrow_at, wrong_at}
-use Rattle.tables.specs.TableWalk.{stops_at}
+use Rattle.tables.specs.TableWalk.{Found, earlier, stops_at}
 
 -- ---- marks
 
@@ -43,21 +43,37 @@ max_in x u = go (reads x) u
     go (is_delta_lem l m o s p g) n = record { placed = λ h. absurd (omega arith); first = λ _. omega arith; second = λ _. omega arith }
 
 -- so those of section i of an undamaged store
-pub turn_max : (store : Assembler) (held words : List ℕ) → Whole store held words → (i : ℕ) (x : StoredSection) → i < store.sections
-    → x ≡ words_at words_per_section words i → MarksIn 1048576 x
-turn_max store held words u i x l e =
-    subst (MarksIn 1048576) (sym e) (max_in _ (((undamaged_iff words_per_section (store_of store held words)).0 u).readable i l))
+pub turn_max : (store : UndamagedStore) (i : ℕ) (x : StoredSection) → i < store.counts.sections
+    → (i < store.counts.sections → x ≡ words_at words_per_section store.words.now i) → MarksIn 1048576 x
+turn_max store i x l e =
+    subst (MarksIn 1048576) (sym (e l)) (max_in _ (((undamaged_iff words_per_section (store_of store.counts store.bytes.now store.words.now)).0 store.undamaged).readable i l))
 
--- the marks that a table of length n has entries for are in a map that covers them
-pub marks_covered : (n : ℕ) (map : List ℕ) (x : StoredSection) → Covers n map → MarksIn n x → MarksIn 1048576 x → MarksIn (8 * length map) x
-marks_covered n map x (inl h) a b =
-    record { placed = λ e. omega (arith, a.placed e); first = λ e. omega (arith, a.first e); second = λ e. omega (arith, a.second e) }
-marks_covered n map x (inr h) a b =
-    record { placed = λ e. omega (arith, b.placed e); first = λ e. omega (arith, b.first e); second = λ e. omega (arith, b.second e) }
+-- the marks that a table of length n has entries for are in a map of so many bytes that covers them
+pub marks_covered : (n room : ℕ) (x : StoredSection) → Covers n room → MarksIn n x → MarksIn 1048576 x → MarksIn (8 * room) x
+marks_covered n room x h a b =
+    record { placed = λ e. omega (arith, a.placed e, b.placed e); first = λ e. omega (arith, a.first e, b.first e); second = λ e. omega (arith, a.second e, b.second e) }
 
--- a map of the same length covers the same
-pub covers_same : (n : ℕ) (map map' : List ℕ) → length map' ≡ length map → Covers n map → Covers n map'
-covers_same n map map' e h = subst (λ (k : ℕ). (n ≤ 8 * k) ⊎ (max_mark < 8 * k)) (sym e) h
+-- ---- the first of the numbers before i that a test holds of, if there is one
+
+abbrev pub SoFar : (ℕ → Bool) → ℕ → Option ℕ → Type 0
+SoFar test i (Some j) = (j < i) × (test j ≡ true) × NoneBefore test j
+SoFar test i None = NoneBefore test i
+
+-- one number more
+pub so_next : (test : ℕ → Bool) (i : ℕ) (found found' : Option ℕ) (q : Bool) → SoFar test i found → test i ≡ q → found' ≡ earlier found i q → SoFar test (i + 1) found'
+so_next test i (Some j) found' q h e d = subst (SoFar test (i + 1)) (sym d) (omega (arith, h.0), h.1, h.2)
+so_next test i None found' true h e d = subst (SoFar test (i + 1)) (sym d) (omega arith, e, h)
+so_next test i None found' false h e d = subst (SoFar test (i + 1)) (sym d) (search_next test i h e)
+
+-- it isn't one
+pub so_same : (test : ℕ → Bool) (i : ℕ) (found found' : Option ℕ) → SoFar test i found → test i ≡ false → found' ≡ found → SoFar test (i + 1) found'
+so_same test i (Some j) found' h e d = subst (SoFar test (i + 1)) (sym d) (omega (arith, h.0), h.1, h.2)
+so_same test i None found' h e d = subst (SoFar test (i + 1)) (sym d) (search_next test i h e)
+
+-- of all sections
+pub so_found : (ss : List Section) (test : ℕ → Bool) (i : ℕ) (found : Option ℕ) → SoFar test i found → i ≡ length ss → Found ss test found
+so_found ss test i (Some j) h e = (omega (arith, h.0), h.1, h.2)
+so_found ss test i None h e = λ j l. h j (omega arith)
 
 -- ---- 7, 16 and 10 of section i, the sum of sizes before it being what the walk has
 
