@@ -4,15 +4,15 @@
 ghost use Rattle.std.specs.Prelude.{◌≡◌, ℕ, ◌+◌, ◌*◌, ◌≤◌, ◌<◌, [], ◌∷◌, length};
 ghost use Rattle.units.specs.Numbers.{big_endian};
 ghost use Rattle.records.specs.Record.{form_of};
-ghost use Rattle.records.specs.Store.{store_of, words_per_section, words_at};
-ghost use Rattle.records.specs.Sections.{decode};
+ghost use Rattle.records.specs.Store.{words_per_section, words_at};
 ghost use Rattle.slices.specs.Over.{over};
 ghost use Rattle.layout.specs.Passes.{entry};
 ghost use Rattle.assembler.specs.Emission.{opcode, code_of};
-ghost use Rattle.settling.specs.SectionWalk.{value_words};
+ghost use Rattle.settling.specs.SectionWalk.{sections_in, value_words};
 ghost use Rattle.assembler.specs.Writing.{Fits, wrote, words_bytes, form_bytes, Writable, WritableReference};
 
-use records::{Assembler, StoredSection, form_of, kind};
+use records::{StoredSection, form_of, kind};
+use undamaged::UndamagedStore;
 use units::{MarkId, form};
 
 // The lent code and the place in it that the next byte goes to.
@@ -23,42 +23,17 @@ pub(crate) struct CodeWriter<'a> {
 }
 
 // Writes the code of every section, from a position on.
-pub(crate) fn write_code(
-    store: Assembler,
-    bytes: &[u8],
-    words: &[u32],
-    table: &[u32],
-    res: &mut [u8],
-    position: usize,
-)
-    requires sections_in_bounds { words_per_section * store.sections ≤ length words.now }
-    requires by_index { (i : ℕ) → i < store.sections → Writable bytes.now table.now (words_at words_per_section words.now i) }
-    requires fits { position
-        + length (code_of (entry table.now) (decode words_per_section (store_of store bytes.now words.now)))
-        ≤ length res.old }
-    ensures { res.new
-        ≡ over res.old position
-        (code_of (entry table.now) (decode words_per_section (store_of store bytes.now words.now))) }
+pub(crate) fn write_code(store: UndamagedStore, table: &[u32], res: &mut [u8], position: usize)
+    requires by_index { (i : ℕ) → i < store.counts.sections
+        → Writable store.bytes.now table.now (words_at words_per_section store.words.now i) }
+    requires fits { position + length (code_of (entry table.now) (sections_in store)) ≤ length res.old }
+    ensures { res.new ≡ over res.old position (code_of (entry table.now) (sections_in store.entry)) }
 {
     let mut writer = CodeWriter {
         code: res,
         at: position,
     };
-    writer.write_sections(store, bytes, words, table);
-}
-
-// The three words of section i. A copy of the reader in `records`, private and so without a test of the index, with which assembly takes
-// 8 to 15 % longer (docs/DECISIONS.md, 49).
-fn section_words(words: &[u32], i: usize) -> StoredSection
-    requires { words_per_section * (i + 1) ≤ length words.now }
-    ensures { result ≡ words_at words_per_section words.now i }
-{
-    let at = Assembler::WORDS * i;
-    StoredSection {
-        kind: words[at],
-        first: words[at + 1],
-        second: words[at + 2],
-    }
+    writer.write_sections(store, table);
 }
 
 // A reference's value by the table.
@@ -74,7 +49,7 @@ fn value_of(section: StoredSection, table: &[u32]) -> u32
     end - start
 }
 
-// A mark's entry of the table. Private for the same reason as the reader of a section's words.
+// A mark's entry of the table.
 fn entry_of(table: &[u32], mark: MarkId) -> u32
     requires { «mark».0 < length table.now }
     ensures { result ≡ entry table.now «mark».0 }
@@ -85,17 +60,14 @@ fn entry_of(table: &[u32], mark: MarkId) -> u32
 
 impl<'a> CodeWriter<'a> {
     // Writes every section.
-    fn write_sections(&mut self, store: Assembler, bytes: &[u8], words: &[u32], table: &[u32])
-        requires sections_in_bounds { words_per_section * store.sections ≤ length words.now }
-        requires by_index { (i : ℕ) → i < store.sections → Writable bytes.now table.now (words_at words_per_section words.now i) }
-        requires fits { Fits self.old
-            (code_of (entry table.now) (decode words_per_section (store_of store bytes.now words.now))) }
-        ensures { self.new
-            ≡ wrote self.old
-            (code_of (entry table.now) (decode words_per_section (store_of store bytes.now words.now))) }
+    fn write_sections(&mut self, store: UndamagedStore, table: &[u32])
+        requires by_index { (i : ℕ) → i < store.counts.sections
+            → Writable store.bytes.now table.now (words_at words_per_section store.words.now i) }
+        requires fits { Fits self.old (code_of (entry table.now) (sections_in store)) }
+        ensures { self.new ≡ wrote self.old (code_of (entry table.now) (sections_in store.entry)) }
     {
-        for i in 0..store.sections {
-            self.write_section(section_words(words, i as usize), bytes, table);
+        for i in 0..store.counts.sections {
+            self.write_section(store.section(i), store.bytes, table);
         }
     }
 
@@ -170,9 +142,9 @@ impl<'a> CodeWriter<'a> {
         requires { Fits self.old bytes.now }
         ensures { self.new ≡ wrote self.old bytes.now }
     {
-        for byte in bytes {
-            self.write_byte(*byte);
-        }
+        let end = self.at + bytes.len();
+        self.code[self.at..end].copy_from_slice(bytes);
+        self.at = end;
     }
 
     fn write_byte(&mut self, byte: u8)

@@ -13,11 +13,11 @@ loop-i-init c = record {
 
 pub write_section-requires-clause-fits : goal.write_section-requires-clause-fits
 write_section-requires-clause-fits c =
-    left_fits c.loop-i.invariant _ _ (code_step _ _ _ c.loop-i.i _ c.loop-i-test.true c.section_words.ensures)
+    left_fits c.loop-i.invariant _ _ (code_step _ _ _ c.loop-i.i _ c.loop-i-test.true (c.section.ensures c.loop-i-test.true))
 
 pub loop-i-preserved : goal.loop-i-preserved
 loop-i-preserved c =
-    left_next c.loop-i.invariant _ _ (code_step _ _ _ c.loop-i.i _ c.loop-i-test.true c.section_words.ensures) c.write_section.ensures
+    left_next c.loop-i.invariant _ _ (code_step _ _ _ c.loop-i.i _ c.loop-i-test.true (c.section.ensures c.loop-i-test.true)) c.write_section.ensures
 
 pub returns : goal.returns
 returns c = left_done c.loop-i.invariant (code_none _ _ _ c.loop-i.i c.loop-i-test.false)
