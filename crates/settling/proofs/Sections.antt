@@ -25,8 +25,9 @@ use Rattle.undamaged.specs.View.{Undamaged, Facts}
 use Rattle.undamaged.specs.declared.store.UndamagedStore.{UndamagedStore}
 use Rattle.undamaged.proofs.Soundness.{undamaged_iff}
 use Rattle.undamaged.proofs.Sections.{decode_snoc, span_stored}
+use Rattle.slices.proofs.First.{NoneBefore, least_same, least_from_least}
 use Rattle.layout.specs.Passes.{value_by}
-use Rattle.layout.specs.Conditions.{section_at, Never, sum_of, stored_in, placed, short_at, unplaced_at, missing_at, delta_at, backward_at, first_backward}
+use Rattle.layout.specs.Conditions.{section_at, first, Never, sum_of, stored_in, placed, short_at, unplaced_at, missing_at, delta_at, backward_at, first_backward}
 use Rattle.layout.proofs.Least.{never_law}
 use Rattle.layout.proofs.Moves.{width_by}
 use Rattle.layout.proofs.Apart.{least_before}
@@ -263,3 +264,12 @@ sections_same store counts held words same =
     ap (λ (x : Assembler). sections_of x store.bytes.now store.words.now) same.0
     ∙ ap (λ (x : List ℕ). sections_of counts x store.words.now) same.1
     ∙ ap (sections_of counts held) same.2
+
+-- where the walk of a search comes to: the first section with a property
+pub first_found : (store : UndamagedStore) (test : ℕ → Bool) (i : ℕ) → i ≤ store.counts.sections → NoneBefore test i
+    → (i < store.counts.sections → test i ≡ true) → i ≡ first (sections_in store) test
+first_found store test i within none one =
+    let count = sections_count store in
+    least_same test (length (sections_in store)) 0 i _
+    (record { above = omega arith; within = omega (arith, count); none = λ j a b. none j b; holds = λ l. one (omega (arith, count)) })
+    (least_from_least test (length (sections_in store)) 0)

@@ -1,6 +1,7 @@
 // The test for 7 of one section, and the searches for 8, 17 or 18 and for 12: the first section with a property, the count of sections if
 // there is none.
-ghost use Rattle.std.specs.Prelude.{◌≡◌, leb, length, false};
+ghost use Rattle.std.specs.Prelude.{◌≡◌, ℕ, ◌<◌, ◌≤◌, leb, length, true, false};
+ghost use Rattle.records.specs.Store.{words_per_section, words_at};
 ghost use Rattle.layout.specs.Conditions.{Never, delta_at, first_unplaced, first_backward};
 ghost use Rattle.settling.specs.SectionWalk.{sections_in, MarksFit, short_words, MarksIn, unplaced_words, backward_words};
 ghost use Rattle.settling.specs.SectionWalk.{first_sums, all_placed, missing_words, missing_refusal};
@@ -63,6 +64,22 @@ fn all_placed(table: &[u32]) -> bool
     !table.contains(&0)
 }
 
+// The first section with a property; the count of sections if there is none.
+fn first_section<F: Fn(StoredSection) -> bool>(store: UndamagedStore, is_one: F) -> u32
+    requires { (i : ℕ) → i < store.counts.sections → F.pre is_one (words_at words_per_section store.words.now i) }
+    ensures within { result ≤ store.entry.counts.sections }
+    ensures none { (i : ℕ) → i < result → F.post is_one (words_at words_per_section store.entry.words.now i) false }
+    ensures one { result < store.entry.counts.sections
+        → F.post is_one (words_at words_per_section store.entry.words.now result) true }
+{
+    for i in 0..store.counts.sections {
+        if is_one(store.section(i)) {
+            return i;
+        }
+    }
+    store.counts.sections
+}
+
 // The first reference to a mark that is never placed. Where all are placed, the sections need no walk.
 pub(crate) fn first_unplaced(store: UndamagedStore, table: &[u32]) -> u32
     requires in_table { MarksFit (sections_in store) (length table.now) }
@@ -72,12 +89,7 @@ pub(crate) fn first_unplaced(store: UndamagedStore, table: &[u32]) -> u32
     if all_placed(table) {
         return store.counts.sections;
     }
-    for i in 0..store.counts.sections {
-        if is_unplaced(store.section(i), table) {
-            return i;
-        }
-    }
-    store.counts.sections
+    first_section(store, |section| is_unplaced(section, table))
 }
 
 // 8, 17 or 18 for the section that the search found: by its kind and, of a delta, by whether its start is placed. `tables` calls it too.
@@ -116,10 +128,5 @@ pub(crate) fn first_backward(store: UndamagedStore, table: &[u32], has_delta: bo
     if !has_delta {
         return store.counts.sections;
     }
-    for i in 0..store.counts.sections {
-        if is_backward(store.section(i), table) {
-            return i;
-        }
-    }
-    store.counts.sections
+    first_section(store, |section| is_backward(section, table))
 }

@@ -1,8 +1,0 @@
--- Where all marks are placed, no reference is to an unplaced one. Else the invariant: no section before i is one. Assumes nothing.
-use Rattle.slices.proofs.First.{NoneBefore}
-use Rattle.layout.specs.Conditions.{unplaced_at}
-use Rattle.settling.specs.SectionWalk.{sections_in}
-use Rattle.settling.proofs.search.first_unplaced.Given as goal
-
-abbrev pub invariant-loop-i : goal.invariant-loop-i
-invariant-loop-i l = NoneBefore (unplaced_at (sections_in l.store)) l.i
