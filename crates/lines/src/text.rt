@@ -89,6 +89,7 @@ impl<'a> TextSink<'a> {
 }
 
 // The character of a hex digit.
+#[tactic(auto, unfolding(crate::specs::Lines::hex_digit))]
 fn hex_digit(digit: u8) -> u8
     requires { digit < 16 }
     ensures { result ≡ hex_digit digit }
