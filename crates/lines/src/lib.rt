@@ -93,6 +93,7 @@ impl<'a> TextSink<'a> {
     }
 
     // `  PUSH .mark1` or `  RAW (.mark1 - .mark0):2`
+    #[tactic(auto, using(crate::proofs::Sinks::then), unfolding(crate::specs::Lines::reference_line, opcodes::specs::Text::as_bytes))]
     pub fn put_reference_line(&mut self, reference: AsmReference)
         ensures { self.new ≡ added self.old (reference_line reference) }
     {

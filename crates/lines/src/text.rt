@@ -76,6 +76,7 @@ impl<'a> TextSink<'a> {
     }
 
     // A number in decimal.
+    #[tactic(auto, using(crate::proofs::Sinks::then, crate::proofs::Digits::decimal_small, crate::proofs::Digits::decimal_more))]
     pub(crate) fn put_decimal(&mut self, value: u32)
         ensures { self.new ≡ added self.old (decimal value) }
     {
