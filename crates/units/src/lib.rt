@@ -30,10 +30,10 @@ pub struct Span<T> {
 // A number of bytes that a value is written in.
 #[derive(Clone, Copy, Debug, PartialEq, Eq)]
 pub enum RefSize {
-    S1,
-    S2,
-    S3,
-    S4,
+    S1 = 1,
+    S2 = 2,
+    S3 = 3,
+    S4 = 4,
 }
 
 // What a reference's value is read from: one mark's offset, or the end mark's offset minus the start mark's.
@@ -69,12 +69,7 @@ impl RefSize {
     pub fn bytes(self) -> u32
         ensures { (result ≡ ref_size_bytes self) × (result ≤ 4) }
     {
-        match self {
-            RefSize::S1 => 1,
-            RefSize::S2 => 2,
-            RefSize::S3 => 3,
-            RefSize::S4 => 4,
-        }
+        self as u32
     }
 }
 
