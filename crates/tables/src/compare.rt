@@ -59,8 +59,5 @@ pub(crate) fn compare<const BYTES: usize>(
 fn earlier(found: Option<u32>, i: u32, is_one: bool) -> Option<u32>
     ensures { result ≡ earlier found i is_one }
 {
-    if found.is_none() && is_one {
-        return Some(i);
-    }
-    found
+    if is_one { found.or(Some(i)) } else { found }
 }
