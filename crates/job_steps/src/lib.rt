@@ -12,10 +12,9 @@ ghost use Rattle.job_steps.specs.JobBuild.{job_built_reply, job_build};
 
 use records::Assembler;
 use run::run_steps;
-use store::Built;
 use units::Refusal;
 pub use validate::MAX_JOB;
-use validate::is_job;
+use validate::job_parts;
 
 // What a job's steps come to: the store's counts, the refusal of the first refused call, or 15, no job.
 #[derive(Clone, Copy)]
@@ -35,12 +34,8 @@ pub fn build_job(job: &[u8], bytes: &mut [u8], words: &mut [u32]) -> JobBuilt
     ensures words { words.new
         ≡ (job_build words_per_section job.now (store_of empty_counts bytes.old words.old)).store.words }
 {
-    if !is_job(job) {
+    let Some(parts) = job_parts(job) else {
         return JobBuilt::BadJob;
-    }
-    let built = run_steps(job, bytes, words);
-    match built {
-        Built::Refused(refusal) => JobBuilt::Refused(refusal),
-        Built::Stored(store) => JobBuilt::Stored(store),
-    }
+    };
+    run_steps(parts, bytes, words)
 }
