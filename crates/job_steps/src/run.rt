@@ -7,7 +7,7 @@ ghost use Rattle.job_steps.specs.JobFormat.{all_listed, step_of};
 ghost use Rattle.job_steps.specs.JobBuild.{job_built_reply};
 ghost use Rattle.job_steps.specs.JobCalls.{push_of, calls_of, built_by};
 
-use crate::JobBuilt;
+use crate::JobError;
 use crate::read::{Parts, step_of};
 use crate::validate::{Call, call_of};
 use records::Assembler;
@@ -31,7 +31,11 @@ fn make_call(call: Call<'_>, store: Assembler, bytes: &mut [u8], words: &mut [u3
 }
 
 // The steps of a job, in turn, on an empty store.
-pub(crate) fn run_steps(job: Parts<'_>, bytes: &mut [u8], words: &mut [u32]) -> JobBuilt
+pub(crate) fn run_steps(
+    job: Parts<'_>,
+    bytes: &mut [u8],
+    words: &mut [u32],
+) -> Result<Assembler, JobError>
     requires { all_listed (length job.pool.now) (map step_of job.steps.now) ≡ true }
     ensures reply { job_built_reply result ≡ all_reply words_per_section (calls_of job.entry.pool.now job.entry.steps.now)
         (store_of empty_counts bytes.old words.old) }
@@ -42,14 +46,14 @@ pub(crate) fn run_steps(job: Parts<'_>, bytes: &mut [u8], words: &mut [u32]) -> 
 {
     let mut store = Assembler::new();
     for step in job.steps {
-        // Never: all were listed before the first call.
+        // No step is unlisted: all were tested before the first call.
         let Some(call) = call_of(step_of(step), job.pool) else {
-            return JobBuilt::BadJob;
+            return Err(JobError::BadJob);
         };
         match make_call(call, store, bytes, words) {
             Built::Stored(next) => store = next,
-            Built::Refused(refusal) => return JobBuilt::Refused(refusal),
+            Built::Refused(refusal) => return Err(JobError::Refused(refusal)),
         }
     }
-    JobBuilt::Stored(store)
+    Ok(store)
 }
