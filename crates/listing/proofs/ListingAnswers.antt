@@ -17,8 +17,8 @@ use Rattle.units.specs.Reply.{Reply, accepted, refused}
 use Rattle.records.specs.Store.{Store}
 use Rattle.records.specs.Damage.{whole_soundness}
 use Rattle.records.specs.Sections.{decode}
-use Rattle.records.specs.declared.damage.Soundness.{Soundness}
-use Rattle.records.specs.declared.damage.Soundness.TheVariants.{Sound, Damaged}
+use Rattle.records.specs.Damage.{Soundness}
+use Rattle.records.specs.Damage.{Sound, Damaged}
 use Rattle.undamaged.specs.View.{Undamaged}
 use Rattle.undamaged.proofs.Soundness.{damaged_at_iff}
 use Rattle.listing.specs.Listing.{listing}
@@ -103,18 +103,16 @@ module _ (w : ℕ) (st : Store) (buffer : List ℕ) where
   pub answers_damaged : (i : ℕ) → whole_soundness w st ≡ Damaged i → Answers (refused number.damaged i 0) buffer
   answers_damaged i e = answers (damaged i) ((damaged_at_iff w st i).0 e)
 
-  -- an undamaged store; n is the listing's length as the code has it, and the buffer is as it was once it is known
-  module _ (u : Undamaged w st) (n : ℕ) (counted : n ≡ length (store_text w st)) {then : List ℕ} (same : then ≡ buffer) where
+  -- an undamaged store; n is the listing's length as the code has it
+  module _ (u : Undamaged w st) (n : ℕ) (counted : n ≡ length (store_text w st)) where
     -- 14: the listing passes the buffer
-    pub answers_full : length then < n → Answers (refused listing_full 0 0) then
-    answers_full h =
-        let given = answers full (u, omega (arith, ap length same)) in
-        (given.0, same ∙ given.1)
+    pub answers_full : length buffer < n → Answers (refused listing_full 0 0) buffer
+    answers_full h = answers full (u, omega arith)
 
     -- it fits
-    pub answers_text : {after : List ℕ} → n ≤ length then → after ≡ sets then 0 (store_text w st) → Answers (accepted n) after
+    pub answers_text : {after : List ℕ} → n ≤ length buffer → after ≡ sets buffer 0 (store_text w st) → Answers (accepted n) after
     answers_text h p =
         let text : List ℕ = store_text w st in
-        let given = answers (written n) (u, counted, omega (arith, ap length same)) in
-        let put = p ∙ ap (λ (l : List ℕ). sets l 0 text) same ∙ sets-eq text buffer 0 (omega (arith, ap length same)) ∙ ap (λ (k : ℕ). text ++ drop k buffer) (zero-add _ ∙ sym counted) in
+        let given = answers (written n) (u, counted, h) in
+        let put = p ∙ sets-eq text buffer 0 (omega arith) ∙ ap (λ (k : ℕ). text ++ drop k buffer) (zero-add _ ∙ sym counted) in
         (given.0, put ∙ given.1)

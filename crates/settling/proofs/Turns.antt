@@ -1,5 +1,6 @@
 -- One turn of each walk that changes the table: the table of first placings, the start table, and a pass; and what the passes come to.
 -- Each says that what remains equals the whole. Assumes nothing.
+use Rattle.std.specs.Prelude.{None, Some}
 use Prim.Native.Nat.{ℕ, suc, ◌+◌, ◌-◌, ◌≤◌, ◌<◌}
 use native.Mathlib.Numerals.{add-one}
 use native.Mathlib.Omega.{arith}
@@ -9,7 +10,6 @@ use mathlib.Core.List.{List, [], ◌∷◌}
 use lib.ListN.{length, set, drop, replicate, drop_of_length-le}
 use lib.Seq.{drop-cons}
 use Rattle.units.specs.Reference.{least_size}
-use Rattle.units.specs.declared.SizeFor.TheVariants.{Bytes, TooNarrow}
 use Rattle.units.proofs.Forms.{size_found, narrow_found}
 use Rattle.records.specs.Sections.{Section, mark, ops, bytes, reference}
 use Rattle.layout.specs.Passes.{entry, value_by, start_from, start, Walked, through, left_at, unlike, walk_from, pass}
@@ -38,7 +38,7 @@ start_other (bytes bs) ss sum table n = refl
 start_other (reference r) ss sum table n = refl
 
 module _ (ss : List Section) (i sum : ℕ) (moved : Bool) (table : List ℕ) where
-  walk_other : (s : Section) (n : ℕ) → NotMark s → size_section (entry table) s ≡ Bytes n → walk_from (s ∷ ss) i sum moved table ≡ walk_from ss (suc i) (sum + n) moved table
+  walk_other : (s : Section) (n : ℕ) → NotMark s → size_section (entry table) s ≡ Some n → walk_from (s ∷ ss) i sum moved table ≡ walk_from ss (suc i) (sum + n) moved table
   unfolding walk_from
   walk_other (mark m) n o e = absurd o
   walk_other (ops bs) n o e = let same : length bs ≡ n = cc in rw same
@@ -47,7 +47,7 @@ module _ (ss : List Section) (i sum : ℕ) (moved : Bool) (table : List ℕ) whe
       let found = size_found r (value_by (entry table) r.mark_ref) n e in
       rw (found.0, ← found.1)
 
-  walk_left : (s : Section) → NotMark s → size_section (entry table) s ≡ TooNarrow → walk_from (s ∷ ss) i sum moved table ≡ left_at i
+  walk_left : (s : Section) → NotMark s → size_section (entry table) s ≡ None → walk_from (s ∷ ss) i sum moved table ≡ left_at i
   unfolding walk_from
   walk_left (mark m) o e = absurd o
   walk_left (ops bs) o e = let z : ◌≡◌ {A = ℕ} 0 1 = cc in absurd (omega arith)
@@ -92,14 +92,14 @@ module _ (ss : List Section) (i : ℕ) (l : i < length ss) where
       ∙ walk_mark_lem m rest i sum moved table
       ∙ ap (λ (j : ℕ). walk_from rest j sum (moved || unlike table m sum) (set table m sum)) (sym (add-one i))
 
-  pub pass_past : (sum n : ℕ) (moved : Bool) (table : List ℕ) → NotMark (section_at ss i) → size_section (entry table) (section_at ss i) ≡ Bytes n
+  pub pass_past : (sum n : ℕ) (moved : Bool) (table : List ℕ) → NotMark (section_at ss i) → size_section (entry table) (section_at ss i) ≡ Some n
       → walk_from (drop i ss) i sum moved table ≡ walk_from rest (i + 1) (sum + n) moved table
   pass_past sum n moved table o e =
       ap (λ (x : List Section). walk_from x i sum moved table) left_cons
       ∙ walk_other rest i sum moved table (section_at ss i) n o e
       ∙ ap (λ (j : ℕ). walk_from rest j (sum + n) moved table) (sym (add-one i))
 
-  pub pass_left : (sum : ℕ) (moved : Bool) (table : List ℕ) → NotMark (section_at ss i) → size_section (entry table) (section_at ss i) ≡ TooNarrow
+  pub pass_left : (sum : ℕ) (moved : Bool) (table : List ℕ) → NotMark (section_at ss i) → size_section (entry table) (section_at ss i) ≡ None
       → walk_from (drop i ss) i sum moved table ≡ left_at i
   pass_left sum moved table o e =
       ap (λ (x : List Section). walk_from x i sum moved table) left_cons ∙ walk_left rest i sum moved table (section_at ss i) o e
@@ -119,7 +119,7 @@ module _ (ss : List Section) (i sum : ℕ) (l : length ss ≤ i) where
   unfolding start_from
   start_done table = ap (λ (x : List Section). start_from x sum table) left_none
 
-  pass_done : (moved : Bool) (table : List ℕ) → walk_from (drop i ss) i sum moved table ≡ through sum moved table
+  pub pass_done : (moved : Bool) (table : List ℕ) → walk_from (drop i ss) i sum moved table ≡ through sum moved table
   unfolding walk_from
   pass_done moved table = ap (λ (x : List Section). walk_from x i sum moved table) left_none
 
@@ -150,26 +150,23 @@ passes_turn ss k table l =
     let d : 1025 - k ≡ suc (1025 - (k + 1)) = omega arith in
     ap (λ (n : ℕ). passes n k ss table) d ∙ ap (λ (j : ℕ). ended k (λ next. passes (1025 - (k + 1)) j ss next) (pass ss table)) (sym (add-one k))
 
--- s is what the passes come to; pass k starts from `from`, and its walk has come to section i
-module _
-    (ss : List Section) (k : ℕ) (from : List ℕ) (s : Settling) (l : k ≤ 1024) (whole : Left ss k from ≡ s)
-    (i sum : ℕ) (moved : Bool) (table : List ℕ) (inv : walk_from (drop i ss) i sum moved table ≡ pass ss from)
-  where
-    -- how it ends
-    walked : (w : Walked) → walk_from (drop i ss) i sum moved table ≡ w → ended k (λ next. Left ss (k + 1) next) w ≡ s
-    walked w e = ap (ended k (λ next. Left ss (k + 1) next)) (sym e ∙ inv) ∙ sym (passes_turn ss k from l) ∙ whole
+-- s is what the passes come to, and pass k starts from `from`
+module _ (ss : List Section) (k : ℕ) (from : List ℕ) (s : Settling) (l : k ≤ 1024) (whole : Left ss k from ≡ s) where
+  -- how it ends
+  walked_to : (w : Walked) → w ≡ pass ss from → ended k (λ next. Left ss (k + 1) next) w ≡ s
+  walked_to w e = ap (ended k (λ next. Left ss (k + 1) next)) e ∙ sym (passes_turn ss k from l) ∙ whole
 
-    -- it is left at section i
-    pub settles-narrow : walk_from (drop i ss) i sum moved table ≡ left_at i → s ≡ narrow_at i k
-    settles-narrow e = sym (walked (left_at i) e)
+  -- it is left at section i
+  pub settles-narrow : (i : ℕ) → left_at i ≡ pass ss from → s ≡ narrow_at i k
+  settles-narrow i e = sym (walked_to (left_at i) e)
 
-    -- it ends without a move
-    pub settles-calm : length ss ≤ i → moved ≡ false → s ≡ settled table sum k
-    settles-calm d m = sym (walked (through sum false table) (pass_done ss i sum d moved table ∙ ap (λ (b : Bool). through sum b table) m))
+  -- it ends without a move
+  pub settles-calm : (sum : ℕ) (moved : Bool) (table : List ℕ) → through sum moved table ≡ pass ss from → moved ≡ false → s ≡ settled table sum k
+  settles-calm sum moved table e m = sym (walked_to (through sum false table) (ap (λ (b : Bool). through sum b table) (sym m) ∙ e))
 
-    -- or with one
-    pub settles_on : length ss ≤ i → moved ≡ true → Left ss (k + 1) table ≡ s
-    settles_on d m = walked (through sum true table) (pass_done ss i sum d moved table ∙ ap (λ (b : Bool). through sum b table) m)
+  -- or with one
+  pub settles_on : (sum : ℕ) (moved : Bool) (table : List ℕ) → through sum moved table ≡ pass ss from → moved ≡ true → Left ss (k + 1) table ≡ s
+  settles_on sum moved table e m = walked_to (through sum true table) (ap (λ (b : Bool). through sum b table) (sym m) ∙ e)
 
 -- no pass is left
 pub settles_out : (ss : List Section) (k : ℕ) (table : List ℕ) (s : Settling) → 1024 < k → Left ss k table ≡ s → s ≡ unsettled
