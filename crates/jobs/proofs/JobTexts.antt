@@ -25,8 +25,11 @@ unfolding refused_text as_bytes
 refused_most n i small word =
     let after = decimal i ++ as_bytes "\n" in
     omega (
-      arith, length-append (decimal n) (as_bytes " at " ++ after), length-append (decimal i) (as_bytes "\n"),
-      decimal_most 2 n (omega arith) (omega (arith, small)), decimal_most 10 i (omega arith) (omega (arith, word))
+      arith,
+      length-append (decimal n) (as_bytes " at " ++ after),
+      length-append (decimal i) (as_bytes "\n"),
+      decimal_most 2 n (omega arith) (omega (arith, small)),
+      decimal_most 10 i (omega arith) (omega (arith, word)),
     )
 
 -- a text put at the start of a buffer that has room for it
