@@ -49,7 +49,7 @@ impl<'a> TextSink<'a> {
 
     // A byte string, counted at once where no byte of it can be stored.
     #[tactic(auto, unfolding(crate::specs::Sink::added))]
-    pub(crate) fn put(&mut self, bytes: &[u8])
+    pub fn put(&mut self, bytes: &[u8])
         ensures { self.new ≡ added self.old bytes.now }
     {
         if self.text.len() <= self.place {
@@ -62,7 +62,7 @@ impl<'a> TextSink<'a> {
     }
 
     // Bytes in hex; counted at once, as `put` does, where none can be stored.
-    pub(crate) fn put_hex(&mut self, bytes: &[u8])
+    pub fn put_hex(&mut self, bytes: &[u8])
         ensures { self.new ≡ added self.old (hex bytes.now) }
     {
         if self.text.len() <= self.place {
@@ -76,8 +76,14 @@ impl<'a> TextSink<'a> {
     }
 
     // A number in decimal.
-    #[tactic(auto, using(crate::proofs::Sinks::then, crate::proofs::Digits::decimal_small, crate::proofs::Digits::decimal_more))]
-    pub(crate) fn put_decimal(&mut self, value: u32)
+    
+<<<<<<< /tmp/wm.2
+#[tactic(auto, using(crate::proofs::Sinks::then, crate::proofs::Digits::decimal_small, crate::proofs::Digits::decimal_more))]
+    pub(crate)
+=======
+pub
+>>>>>>> /tmp/wm.3
+ fn put_decimal(&mut self, value: u32)
         ensures { self.new ≡ added self.old (decimal value) }
     {
         if value < 10 {
