@@ -20,16 +20,6 @@ pub(crate) struct Machine<'a> {
 }
 
 impl<'a> Machine<'a> {
-    // Both counts 0, and every slice as if no call had written to it.
-    pub(crate) fn clear(&mut self) {
-        self.store = Assembler::new();
-        self.bytes.fill(UNWRITTEN_BYTE);
-        self.words.fill(UNWRITTEN_WORD);
-        self.table.fill(UNWRITTEN_WORD);
-        self.result.fill(UNWRITTEN_BYTE);
-        self.text.fill(UNWRITTEN_BYTE);
-    }
-
     // Takes a step and prints its line.
     pub(crate) fn take(&mut self, step: [u8; STEP_BYTES]) -> io::Result<()> {
         match self.try_take(step) {
@@ -51,7 +41,7 @@ impl<'a> Machine<'a> {
             Step::SetCounts(counts) => self.set_counts(counts),
             Step::Assemble(position) => self.assemble(position),
             Step::List => self.list(),
-            Step::Land(offset, end) => self.land(offset, end),
+            Step::Land { offset, end } => self.land(offset, end),
             Step::Settle => self.settle(),
             Step::ShowBytes(part) => show(self.out, "bytes", self.bytes, part, 2),
             Step::ShowWords(part) => show(self.out, "words", self.words, part, 8),
@@ -63,8 +53,14 @@ impl<'a> Machine<'a> {
         }
     }
 
+    // Both counts 0, and every slice as if no call had written to it.
     fn start_anew(&mut self) -> Result<(), Stop> {
-        self.clear();
+        self.store = Assembler::new();
+        self.bytes.fill(UNWRITTEN_BYTE);
+        self.words.fill(UNWRITTEN_WORD);
+        self.table.fill(UNWRITTEN_WORD);
+        self.result.fill(UNWRITTEN_BYTE);
+        self.text.fill(UNWRITTEN_BYTE);
         println!(self.out; "new")?;
         Ok(())
     }

@@ -3,6 +3,7 @@
 #![tactic(auto)]
 
 mod answers;
+mod assembling;
 mod build;
 mod machine;
 mod memory;
@@ -12,19 +13,28 @@ mod step;
 mod stop;
 
 use machine::Machine;
+use memory::{UNWRITTEN_BYTE, UNWRITTEN_WORD};
 use reads::read_full;
 use records::Assembler;
 use script::{MAX_BYTES, MAX_LISTING, MAX_RESULT, MAX_SCRIPT, MAX_TABLE, MAX_WORDS, Script};
 use std::io;
 use std::io::{Print, Stdout};
 
+// Room for one byte more than the longest script, so that a longer one is seen.
+const INPUT_BYTES: usize = MAX_SCRIPT + 1;
+
+// An array of one item, as a function of its own: a proof then knows its length and doesn't go through its items.
+fn filled<T: Copy, const N: usize>(item: T) -> [T; N] {
+    [item; N]
+}
+
 // A script's steps, on slices as long as its header says.
 fn run_steps(out: Stdout, script: Script) -> io::Result<()> {
-    let mut bytes = [0; MAX_BYTES];
-    let mut words = [0; MAX_WORDS];
-    let mut table = [0; MAX_TABLE];
-    let mut result = [0; MAX_RESULT];
-    let mut text = [0; MAX_LISTING];
+    let mut bytes: [u8; MAX_BYTES] = filled(UNWRITTEN_BYTE);
+    let mut words: [u32; MAX_WORDS] = filled(UNWRITTEN_WORD);
+    let mut table: [u32; MAX_TABLE] = filled(UNWRITTEN_WORD);
+    let mut result: [u8; MAX_RESULT] = filled(UNWRITTEN_BYTE);
+    let mut text: [u8; MAX_LISTING] = filled(UNWRITTEN_BYTE);
     let mut machine = Machine {
         out,
         store: Assembler::new(),
@@ -35,7 +45,6 @@ fn run_steps(out: Stdout, script: Script) -> io::Result<()> {
         result: &mut result[..script.result],
         text: &mut text[..script.listing],
     };
-    machine.clear();
     for step in script.steps {
         machine.take(*step)?;
     }
@@ -50,9 +59,8 @@ fn run(out: Stdout, script: &[u8]) -> io::Result<()> {
     }
 }
 
-// The input has room for one byte more than the longest script, so that a longer one is seen.
 fn main(rt: HostRuntime) -> io::Result<()> {
-    let mut input = [0; MAX_SCRIPT + 1];
+    let mut input: [u8; INPUT_BYTES] = filled(0);
     let n = read_full(&mut rt.stdin(), &mut input)?;
     run(rt.stdout(), &input[..n])
 }

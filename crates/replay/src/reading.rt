@@ -1,5 +1,6 @@
-// The steps that leave the store as it is.
-use crate::answers::{LaidOut, assembled, listed, settled};
+// The steps that read a store, code or the pool and leave them as they are: the listing, whether a jump may land, the scan for the first
+// nonzero byte, and a job.
+use crate::answers::listed;
 use crate::machine::Machine;
 use crate::memory::part_of;
 use crate::step::BadStep;
@@ -11,46 +12,14 @@ use std::io::Print;
 use std::ops::Range;
 
 impl<'a> Machine<'a> {
-    // The code, written into the result from the position on.
-    pub(crate) fn assemble(&mut self, position: usize) -> Result<(), Stop> {
-        let answer = assembler::assemble(
-            self.store,
-            self.bytes,
-            self.words,
-            self.table,
-            self.result,
-            position,
-        );
-        self.say_laid_out(assembled(answer)?)
-    }
-
-    // The code by the table as it is, written into the result from the position on.
-    pub(crate) fn write(&mut self, position: usize) -> Result<(), Stop> {
-        let answer = assembler::write(
-            self.store,
-            self.bytes,
-            self.words,
-            self.table,
-            self.result,
-            position,
-        );
-        self.say_laid_out(assembled(answer)?)
-    }
-
-    // The offsets, into the table.
-    pub(crate) fn settle(&mut self) -> Result<(), Stop> {
-        let answer = settling::settle(self.store, self.bytes, self.words, self.table);
-        self.say_laid_out(settled(answer)?)
-    }
-
-    fn say_laid_out(&self, laid_out: LaidOut) -> Result<(), Stop> {
-        println!(self.out; "length {} passes {}", laid_out.length, laid_out.passes)?;
-        Ok(())
-    }
-
     // The listing, to the start of the text.
     pub(crate) fn list(&mut self) -> Result<(), Stop> {
-        let answer = listing::write_asm(self.store, self.bytes, self.words, self.text);
+        let answer = listing::write_asm(
+            self.store,
+            &mut *self.bytes,
+            &mut *self.words,
+            &mut *self.text,
+        );
         let length = listed(answer)?;
         println!(self.out; "listing {length}")?;
         Ok(())
@@ -66,10 +35,11 @@ impl<'a> Machine<'a> {
     // Whether a jump may land at the offset in the result's first `end` bytes.
     pub(crate) fn land(&self, offset: usize, end: usize) -> Result<(), Stop> {
         let code = self.result.get(..end).ok_or(BadStep)?;
-        match lands(code, offset) {
-            Landing::Yes => println!(self.out; "yes")?,
-            Landing::No => println!(self.out; "no")?,
-        }
+        let answer = match lands(code, offset) {
+            Landing::Yes => "yes",
+            Landing::No => "no",
+        };
+        println!(self.out; "{answer}")?;
         Ok(())
     }
 

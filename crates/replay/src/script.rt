@@ -1,5 +1,6 @@
 // The script: its limits and its parts. Every number is four bytes, highest first.
 ghost use Rattle.std.specs.Prelude.{◌≤◌, IfSome};
+ghost use Rattle.replay.specs.declared.script.TheConstants.{MAX_BYTES, MAX_WORDS, MAX_TABLE, MAX_RESULT, MAX_LISTING};
 
 use crate::step::STEP_BYTES;
 
