@@ -9,7 +9,7 @@ use Rattle.slices.specs.Over.{over}
 use Rattle.records.specs.Store.{Store, record_words}
 use Rattle.records.specs.Damage.{last_soundness}
 use Rattle.records.specs.Sections.{ops, bytes}
-use Rattle.records.specs.declared.damage.Soundness.TheVariants.{Sound}
+use Rattle.records.specs.Damage.{Sound}
 use Rattle.calls.specs.Calls.{joins, bytes_over, bytes_pass, no_section_left, section_passes}
 use Rattle.numbers.specs.Numbers.{packed}
 use Rattle.numbers.proofs.Adds.{Adds, add_joined, add-appended}

@@ -13,8 +13,8 @@ use Rattle.slices.proofs.Tests.{cond_case}
 use Rattle.records.specs.Store.{Store}
 use Rattle.records.specs.Sections.{Section, mark, ops, bytes, reference, decode}
 use Rattle.records.specs.Damage.{whole_soundness}
-use Rattle.records.specs.declared.damage.Soundness.{Soundness}
-use Rattle.records.specs.declared.damage.Soundness.TheVariants.{Sound, Damaged}
+use Rattle.records.specs.Damage.{Soundness}
+use Rattle.records.specs.Damage.{Sound, Damaged}
 use Rattle.undamaged.specs.View.{Undamaged}
 use Rattle.undamaged.proofs.Soundness.{undamaged_iff, damaged_at_iff}
 use Rattle.layout.specs.Passes.{entry, value_by, Walked, left_at, walk_from, pass}

@@ -10,8 +10,8 @@ use Rattle.units.specs.Reply.{Reply, accepted, refused}
 use Rattle.records.specs.Store.{Store, section_words}
 use Rattle.records.specs.Damage.{whole_soundness}
 use Rattle.records.specs.Sections.{Section, decode_at, decode}
-use Rattle.records.specs.declared.damage.Soundness.{Soundness}
-use Rattle.records.specs.declared.damage.Soundness.TheVariants.{Sound, Damaged}
+use Rattle.records.specs.Damage.{Soundness}
+use Rattle.records.specs.Damage.{Sound, Damaged}
 use Rattle.records.specs.declared.record.StoredSection.{StoredSection}
 use Rattle.layout.specs.Passes.{entry, settled, settle}
 use Rattle.layout.specs.Conditions.{Never, short_at, backward_at, references}

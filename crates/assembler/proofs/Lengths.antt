@@ -1,4 +1,5 @@
 -- The bytes of a section are as many as its size by the same offsets, so the written layout is the settled one. Assumes nothing.
+use Rattle.std.specs.Prelude.{None, Option, Some}
 use Prim.Native.Nat.{ℕ, ◌+◌}
 use native.Mathlib.Omega.{arith}
 use mathlib.Core.Path.{◌≡◌, refl, ◌∙◌, ap, ap₂}
@@ -6,10 +7,9 @@ use mathlib.Core.Bool.{Bool, true, false, cond}
 use mathlib.Core.List.{List, [], ◌∷◌, ◌++◌, map}
 use lib.Dec.{eqb}
 use lib.ListN.{length, length-append}
+use Rattle.units.specs.declared.RefSize.{RefSize}
 use Rattle.units.specs.Numbers.{held_bytes, big_endian}
 use Rattle.units.specs.Reference.{ref_size_bytes, op_bytes, width, size}
-use Rattle.units.specs.declared.SetSize.{SetSize}
-use Rattle.units.specs.declared.SetSize.TheVariants.{Unsized, Sized}
 use Rattle.units.specs.declared.MarkReference.{MarkReference}
 use Rattle.units.specs.declared.AsmReference.{AsmReference}
 use Rattle.units.proofs.BigEndian.{length_big_endian}
@@ -33,10 +33,10 @@ length_reference r v = go r.mark_ref r.set_size r.pushed
     test true = refl
     test false = length_value true (held_bytes v) v
 
-    go : (m : MarkReference) (s : SetSize) (p : Bool) → length (reference_bytes (record { mark_ref = m; set_size = s; pushed = p }) v) ≡ width s p v
-    go m (Sized s) p = length_value p (ref_size_bytes s) v
-    go m Unsized true = test (eqb v 0)
-    go m Unsized false = length_big_endian (held_bytes v) v
+    go : (m : MarkReference) (s : Option RefSize) (p : Bool) → length (reference_bytes (record { mark_ref = m; set_size = s; pushed = p }) v) ≡ width s p v
+    go m (Some s) p = length_value p (ref_size_bytes s) v
+    go m None true = test (eqb v 0)
+    go m None false = length_big_endian (held_bytes v) v
 
 -- a section's bytes are as many as its size
 pub length_section : (offset : ℕ → ℕ) (s : Section) → length (section_bytes offset s) ≡ size_by offset s

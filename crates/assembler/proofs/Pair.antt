@@ -10,7 +10,7 @@ use lib.ListN.{length, replicate}
 use Rattle.units.specs.Reply.{Reply, accepted, refused}
 use Rattle.records.specs.Store.{Store}
 use Rattle.records.specs.Sections.{decode}
-use Rattle.records.specs.declared.damage.Soundness.TheVariants.{Sound}
+use Rattle.records.specs.Damage.{Sound}
 use Rattle.layout.specs.Answer.{Laid}
 use Rattle.layout.specs.Tight.{Decides}
 use Rattle.settling.specs.Settle.{Settlement, settlement, settling}

@@ -1,5 +1,6 @@
 -- Each pushed reference of a code is one push instruction that pushes its value, wherever the code stands in a result; and each
 -- reference's value is where its marks are. For every settled table. Assumes nothing.
+use Rattle.std.specs.Prelude.{None, Option, Some}
 use Prim.Native.Nat.{ℕ, zero, suc, ◌+◌, ◌^◌, ◌≤◌, ◌<◌}
 use native.Mathlib.Omega.{arith}
 use native.Mathlib.Nat.{zero-add}
@@ -12,10 +13,9 @@ use lib.Dec.{eqb}
 use lib.ListN.{length, get_or, take, drop, length-append, length-map, get_or-map}
 use lib.Seq.{length-take-le, get_or-append_seam}
 use borrow.Author.Tests.{eqb-true, eqb-false, ltb-false, not-false}
+use Rattle.units.specs.declared.RefSize.{RefSize}
 use Rattle.units.specs.Numbers.{held_bytes, number, big_endian}
 use Rattle.units.specs.Reference.{ref_size_bytes, width, size, too_narrow}
-use Rattle.units.specs.declared.SetSize.{SetSize}
-use Rattle.units.specs.declared.SetSize.TheVariants.{Unsized, Sized}
 use Rattle.units.specs.declared.MarkReference.{MarkReference}
 use Rattle.units.specs.declared.MarkReference.TheVariants.{Direct, Delta}
 use Rattle.units.specs.declared.AsmReference.{AsmReference}
@@ -66,18 +66,18 @@ push_reference_lem : (r : AsmReference) (v : ℕ) → r.pushed ≡ true → too_
 unfolding reference_bytes size
 push_reference_lem r v p narrow small = go r.set_size r.pushed p (size_holds r v small narrow)
   where
-    unsized : (b : Bool) → eqb v 0 ≡ b → HoldsIn Unsized true v (cond b 1 (held_bytes v + 1))
+    unsized : (b : Bool) → eqb v 0 ≡ b → HoldsIn None true v (cond b 1 (held_bytes v + 1))
         → Push (cond b (0x5f ∷ []) (opcode true (held_bytes v) ++ big_endian (held_bytes v) v)) v
     unsized true e h = push_none v (eqb-true v 0 e)
     unsized false e (inl h) = absurd (eqb-false v 0 e h.1)
     unsized false e (inr h) = push_bytes (held_bytes v) v (omega (arith, held_le v)) (subst (λ (n : ℕ). v < 256 ^ n) (omega arith) h.2)
 
-    go : (s : SetSize) (q : Bool) → q ≡ true → HoldsIn s q v (width s q v)
+    go : (s : Option RefSize) (q : Bool) → q ≡ true → HoldsIn s q v (width s q v)
         → Push (cond (is_push_zero s q v) (0x5f ∷ []) (opcode q (byte_count s v) ++ big_endian (byte_count s v) v)) v
-    go (Sized s) true e h = push_bytes (ref_size_bytes s) v (omega (arith, ref_size_le s)) h.1
-    go (Sized s) false e h = absurd (false≢true e)
-    go Unsized true e h = unsized (eqb v 0) refl h
-    go Unsized false e h = absurd (false≢true e)
+    go (Some s) true e h = push_bytes (ref_size_bytes s) v (omega (arith, ref_size_le s)) h.1
+    go (Some s) false e h = absurd (false≢true e)
+    go None true e h = unsized (eqb v 0) refl h
+    go None false e h = absurd (false≢true e)
 
 -- wherever such bytes stand, they are one instruction
 push_stands : (before bs after : List ℕ) (v : ℕ) → Push bs v → PushesAt (before ++ (bs ++ after)) (length before) (length bs) v

@@ -7,7 +7,7 @@ use Rattle.units.specs.Reply.{Reply, refused}
 use Rattle.records.specs.Store.{Store}
 use Rattle.records.specs.Sections.{Section, decode}
 use Rattle.records.specs.Damage.{whole_soundness}
-use Rattle.records.specs.declared.damage.Soundness.TheVariants.{Sound}
+use Rattle.records.specs.Damage.{Sound}
 use Rattle.slices.specs.Over.{over}
 use Rattle.layout.specs.Layout.{Layout, in_all, GivesEnough}
 use Rattle.layout.specs.Passes.{entry, settled, narrow_at, settle}

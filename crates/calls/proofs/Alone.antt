@@ -13,8 +13,8 @@ use Rattle.units.specs.Replies.{sections_full, damaged}
 use Rattle.units.specs.Reply.{accepted, refused}
 use Rattle.slices.proofs.Over.{over_nothing}
 use Rattle.records.specs.declared.record.StoredSection.{StoredSection}
-use Rattle.records.specs.declared.damage.Soundness.{Soundness}
-use Rattle.records.specs.declared.damage.Soundness.TheVariants.{Sound, Damaged}
+use Rattle.records.specs.Damage.{Soundness}
+use Rattle.records.specs.Damage.{Sound, Damaged}
 use Rattle.records.specs.Store.{Store, counts_of, max_bytes}
 use Rattle.records.specs.Damage.{last_soundness}
 use Rattle.records.specs.Sections.{Section, mark, ops, bytes, reference}

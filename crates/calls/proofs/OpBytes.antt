@@ -21,8 +21,8 @@ use Rattle.records.specs.Damage.{unreadable, is_span, last_broken, last_soundnes
 use Rattle.records.specs.Sections.{Section, ops}
 use Rattle.records.specs.declared.record.AsmSection.TheVariants.{Ops}
 use Rattle.records.specs.declared.record.StoredSection.{StoredSection}
-use Rattle.records.specs.declared.damage.Soundness.{Soundness}
-use Rattle.records.specs.declared.damage.Soundness.TheVariants.{Sound, Damaged}
+use Rattle.records.specs.Damage.{Soundness}
+use Rattle.records.specs.Damage.{Sound, Damaged}
 use Rattle.records.proofs.Reading.{span_read, section_ops}
 use Rattle.slices.specs.Over.{over}
 use Rattle.slices.proofs.Over.{length_over, over_nothing, over_next, set_over}

@@ -1,5 +1,6 @@
 -- One added section: it joins the last one or comes after it, and its words are read back as it.
 -- Assumes nothing.
+use Rattle.std.specs.Prelude.{Option, Some}
 use Prim.Native.Nat.{ℕ, ◌+◌, ◌≤◌}
 use native.Mathlib.Nat.{add-zero, le-add_right}
 use mathlib.Core.Path.{◌≡◌, refl, sym, ap, ◌∙◌, subst}
@@ -10,12 +11,11 @@ use lib.ListN.{length}
 use lib.Seq.{slice}
 use lib.Dec.{ltb}
 use borrow.Author.Tests.{ltb-false, eqb-true, le-leb}
-use Rattle.units.specs.declared.SetSize.{SetSize}
+use Rattle.units.specs.declared.RefSize.{RefSize}
+use Rattle.records.specs.declared.record.AsmSection.{AsmSection}
 use Rattle.units.specs.declared.MarkReference.{MarkReference}
 use Rattle.units.specs.declared.MarkReference.TheVariants.{Direct, Delta}
 use Rattle.records.specs.declared.record.AsmSection.TheVariants.{MarkRef}
-use Rattle.records.specs.declared.record.SectionRead.{SectionRead}
-use Rattle.records.specs.declared.record.SectionRead.TheVariants.{Read}
 use Rattle.records.specs.Record.{max_mark, ops_kind, data_kind, read_mark, read_section, words_of_ref, reference_words}
 use Rattle.records.specs.Damage.{unreadable, is_span}
 use Rattle.records.specs.Sections.{Section, mark, ops, bytes, reference, section_read}
@@ -40,7 +40,7 @@ apart_data x (bytes new) e = absurd (true≢false e)
 apart_data x (reference r) e = refl
 
 -- a section that doesn't extend the last one, by its kind word, comes after it in the list
-pub apart : {k a b : ℕ} {v : SectionRead} (old : List ℕ) (s : Section) → View k a b v → extends k s ≡ false → after_last (section_read old v) s ≡ section_read old v ∷ s ∷ []
+pub apart : {k a b : ℕ} {v : Option AsmSection} (old : List ℕ) (s : Section) → View k a b v → extends k s ≡ false → after_last (section_read old v) s ≡ section_read old v ∷ s ∷ []
 apart old s unread e = refl
 apart old s (as_ops_lem q l) e = apart_ops _ s (subst (λ (k : ℕ). extends k s ≡ false) q e)
 apart old s (as_data_lem q l) e = apart_data _ s (subst (λ (k : ℕ). extends k s ≡ false) q e)
@@ -50,8 +50,8 @@ apart old s (as_reference n r) e = refl
 -- ---- the words of an added section
 
 -- a reference is read back from its words
-read_reference : (m : MarkReference) (s : SetSize) (p : Bool) → names_large_mark m ≡ false
-    → read_section (words_of_ref m s p) ≡ Read (MarkRef (record { mark_ref = m; set_size = s; pushed = p }))
+read_reference : (m : MarkReference) (s : Option RefSize) (p : Bool) → names_large_mark m ≡ false
+    → read_section (words_of_ref m s p) ≡ Some (MarkRef (record { mark_ref = m; set_size = s; pushed = p }))
 read_reference (Direct m) s p e = read_direct_lem m s p e
 read_reference (Delta d) s p e =
     let r = (or-false (ltb max_mark d.start.0) (ltb max_mark d.end.0)).0 e in

@@ -12,8 +12,8 @@ use borrow.Author.Tests.{eq-eqb, leb-true}
 use Rattle.units.specs.Replies.{bad_depth, bad_word, large_mark, bytes_full, sections_full, damaged}
 use Rattle.units.specs.Reply.{accepted, refused}
 use Rattle.records.specs.declared.Assembler.{Assembler}
-use Rattle.records.specs.declared.damage.Soundness.{Soundness}
-use Rattle.records.specs.declared.damage.Soundness.TheVariants.{Sound, Damaged}
+use Rattle.records.specs.Damage.{Soundness}
+use Rattle.records.specs.Damage.{Sound, Damaged}
 use Rattle.records.specs.Store.{Store, counts_of}
 use Rattle.records.specs.Damage.{last_soundness}
 use Rattle.calls.specs.Calls.{BuiltReply, Push, has_bad_depth, has_bad_word, has_large_mark, added, with_section, bytes_pass, section_passes, room_reply, sound_reply, add_reply, push_reply, if_stored, push_after, all_reply, each_after, all_after}

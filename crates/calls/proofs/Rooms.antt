@@ -10,7 +10,7 @@ use lib.Dec.{ltb}
 use borrow.Author.Tests.{lt-ltb, le-ltb, ltb-false}
 use Rattle.records.specs.Store.{Store, max_sections, bad_counts}
 use Rattle.records.specs.Damage.{last_soundness, bad_count_building}
-use Rattle.records.specs.declared.damage.Soundness.TheVariants.{Sound, Damaged}
+use Rattle.records.specs.Damage.{Sound, Damaged}
 use Rattle.calls.specs.Calls.{no_section_left}
 
 -- counts are good where a building call's test finds nothing

@@ -3,7 +3,7 @@
 use Rattle.std.specs.Prelude.{◌≡◌, ℕ, ◌*◌, ◌≤◌, ◌↔◌, Bool, true, false, not, ◌&&◌, ◌||◌, List, [], ◌∷◌, ◌++◌, length, drop}
 use Rattle.units.specs.Replies.{bad_depth, bad_word, large_mark, bytes_full, sections_full, damaged}
 use Rattle.units.specs.Reply.{accepted, refused}
-use Rattle.records.specs.declared.damage.Soundness.TheVariants.{Damaged}
+use Rattle.records.specs.Damage.{Damaged}
 use Rattle.records.specs.Store.{Store, counts_of}
 use Rattle.records.specs.declared.Assembler.{Assembler}
 use Rattle.records.specs.Damage.{last_soundness}

@@ -11,8 +11,8 @@ use Rattle.units.specs.Replies.{bad_depth, bad_word, large_mark, bytes_full, sec
 use Rattle.units.specs.Reply.{Reply, accepted, refused}
 use Rattle.records.specs.declared.Assembler.{Assembler}
 use Rattle.records.specs.declared.record.StoredSection.{StoredSection}
-use Rattle.records.specs.declared.damage.Soundness.{Soundness}
-use Rattle.records.specs.declared.damage.Soundness.TheVariants.{Sound, Damaged}
+use Rattle.records.specs.Damage.{Soundness}
+use Rattle.records.specs.Damage.{Sound, Damaged}
 use Rattle.records.specs.Record.{max_mark, mark_kind, ops_kind, data_kind, reference_words}
 use Rattle.records.specs.Store.{Store, max_bytes, max_sections, empty_counts, counts_of, section_words, record_words}
 use Rattle.records.specs.Damage.{last_soundness}

@@ -1,4 +1,5 @@
 -- Laws of the push sizes: one for each way that the code goes, and that they are the Yellow Paper's for every byte. Assumes nothing.
+use Rattle.std.specs.Prelude.{None, Option, Some}
 use Prim.Native.Nat.{ℕ, ◌+◌, ◌-◌, ◌≤◌, ◌<◌}
 use native.Mathlib.Omega.{arith}
 use mathlib.Core.Path.{◌≡◌, refl, sym, ap, ◌∙◌}
@@ -8,20 +9,18 @@ use borrow.Author.Tests.{le-leb, lt-leb, leb-true, leb-false}
 use Rattle.evm.specs.YellowPaper.{among, is_push, push_size, instruction_length}
 use Rattle.evm.proofs.Steps.{push_size_le}
 use Rattle.evm.specs.Opcodes.{op_push_size, immediate_bytes}
-use Rattle.evm.specs.declared.op.PushSize.{PushSize}
-use Rattle.evm.specs.declared.op.PushSize.TheVariants.{NoPush, Bytes}
 
 -- the arm of the pushes with an immediate
-pub push_sized : (op : ℕ) → 0x60 ≤ op → op ≤ 0x7f → Bytes (op - 0x60 + 1) ≡ op_push_size op
+pub push_sized : (op : ℕ) → 0x60 ≤ op → op ≤ 0x7f → Some (op - 0x60 + 1) ≡ op_push_size op
 unfolding op_push_size
 push_sized op l h = rw (le-leb 0x60 op l, le-leb op 0x7f h)
 
 -- the arm below them, and the one above
-pub push_below : (op : ℕ) → op < 0x60 → NoPush ≡ op_push_size op
+pub push_below : (op : ℕ) → op < 0x60 → None ≡ op_push_size op
 unfolding op_push_size
 push_below op h = rw (lt-leb 0x60 op h)
 
-pub push_above : (op : ℕ) → 0x7f < op → NoPush ≡ op_push_size op
+pub push_above : (op : ℕ) → 0x7f < op → None ≡ op_push_size op
 unfolding op_push_size
 push_above op h = rw (lt-leb op 0x7f h, and-false (leb 0x60 op))
 
@@ -57,20 +56,20 @@ unfolding instruction_length
 length_agrees op = rw (push_size_agrees op)
 
 -- the arms of the instruction's length: t is what the push size s was matched as
-pub length_from : (op : ℕ) (s t : PushSize) → s ≡ op_push_size op → s ≡ t → 1 + immediate_bytes t ≡ instruction_length op
-length_from op s t e f = ap (λ (x : PushSize). 1 + immediate_bytes x) (sym f ∙ e) ∙ length_agrees op
+pub length_from : (op : ℕ) (s t : Option ℕ) → s ≡ op_push_size op → s ≡ t → 1 + immediate_bytes t ≡ instruction_length op
+length_from op s t e f = ap (λ (x : Option ℕ). 1 + immediate_bytes x) (sym f ∙ e) ∙ length_agrees op
 
 -- a push has an immediate, of the Yellow Paper's size
-pub push_bytes : (op n : ℕ) → op_push_size op ≡ Bytes n → (push_size op ≡ n) × (0 < n)
+pub push_bytes : (op n : ℕ) → op_push_size op ≡ Some n → (push_size op ≡ n) × (0 < n)
 unfolding op_push_size
 push_bytes op n e = (sym (push_size_agrees op) ∙ ap immediate_bytes e, go (among 0x60 0x7f op) e)
   where
-    go : (b : Bool) → cond b (Bytes (op - 0x60 + 1)) NoPush ≡ Bytes n → 0 < n
+    go : (b : Bool) → cond b (Some (op - 0x60 + 1)) None ≡ Some n → 0 < n
     go true f = omega (arith, ap immediate_bytes f)
     go false f = let z : ◌≡◌ {A = ℕ} 0 1 = cc in absurd (omega arith)
 
 -- what is no push has none
-pub push_none : (op : ℕ) → op_push_size op ≡ NoPush → push_size op ≡ 0
+pub push_none : (op : ℕ) → op_push_size op ≡ None → push_size op ≡ 0
 push_none op e = sym (push_size_agrees op) ∙ ap immediate_bytes e
 
 -- what is no push has none

@@ -1,17 +1,15 @@
 -- Opcode numbers, and document 01, module 5: `op::push_size` of op.rs (source document 002), for every byte. Assumes nothing.
-use Rattle.std.specs.Prelude.{ℕ, ◌+◌, ◌-◌, cond}
+use Rattle.std.specs.Prelude.{ℕ, ◌+◌, ◌-◌, cond, None, Option, Some}
 use Rattle.evm.specs.YellowPaper.{among}
-use Rattle.evm.specs.declared.op.PushSize.{PushSize}
-use Rattle.evm.specs.declared.op.PushSize.TheVariants.{NoPush, Bytes}
 
 -- `op::push_size`: PUSH1 to PUSH32 have their bytes of immediate, PUSH0 and every other byte is no push
-unfoldable pub op_push_size : ℕ → PushSize
-op_push_size op = cond (among 0x60 0x7f op) (Bytes (op - 0x60 + 1)) NoPush
+unfoldable pub op_push_size : ℕ → Option ℕ
+op_push_size op = cond (among 0x60 0x7f op) (Some (op - 0x60 + 1)) None
 
 -- the bytes of immediate that a push size stands for
-abbrev pub immediate_bytes : PushSize → ℕ
-immediate_bytes NoPush = 0
-immediate_bytes (Bytes n) = n
+abbrev pub immediate_bytes : Option ℕ → ℕ
+immediate_bytes None = 0
+immediate_bytes (Some n) = n
 
 -- SWAP1 is hex 90, SWAP2 to SWAP16 follow it
 abbrev pub swap_op : ℕ → ℕ

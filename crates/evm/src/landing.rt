@@ -5,13 +5,14 @@ ghost use Rattle.evm.specs.Landing.{landing_at};
 use crate::op;
 
 // Whether a jump may land.
-#[derive(Clone, Copy)]
+#[derive(Clone, Copy, Debug, PartialEq, Eq)]
 pub enum Landing {
     Yes,
     No,
 }
 
 // Yes exactly if the offset is inside the code and the byte there is JUMPDEST. Refuses nothing.
+#[tactic(auto, using(crate::proofs::Lands::outside, crate::proofs::Lands::at_jumpdest, crate::proofs::Lands::at_other))]
 pub fn lands(code: &[u8], offset: usize) -> Landing
     ensures { result ≡ landing_at code.now offset }
 {

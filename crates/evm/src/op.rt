@@ -13,21 +13,14 @@ pub const DUP1: u8 = 0x80;
 
 pub const SWAP1: u8 = 0x90;
 
-// The Rust's Option<u8>: the bytes of immediate after a push, 1 to 32.
-#[derive(Clone, Copy)]
-pub enum PushSize {
-    NoPush,
-    Bytes(u8),
-}
-
-// PUSH1 to PUSH32 have their size; PUSH0 and every other byte is no push.
+// The bytes of immediate after a push, 1 to 32: PUSH1 to PUSH32 have their size; PUSH0 and every other byte is no push.
 #[tactic(auto, using(crate::proofs::Opcodes::push_sized, crate::proofs::Opcodes::push_below, crate::proofs::Opcodes::push_above))]
-pub fn push_size(opcode: u8) -> PushSize
+pub fn push_size(opcode: u8) -> Option<u8>
     ensures { result ≡ op_push_size opcode }
 {
     match opcode {
-        0x60..=0x7f => PushSize::Bytes(opcode - 0x60 + 1),
-        _ => PushSize::NoPush,
+        0x60..=0x7f => Some(opcode - 0x60 + 1),
+        _ => None,
     }
 }
 
@@ -35,9 +28,8 @@ pub fn push_size(opcode: u8) -> PushSize
 pub fn instruction_length(opcode: u8) -> usize
     ensures { result ≡ instruction_length opcode }
 {
-    let size = push_size(opcode);
-    match size {
-        PushSize::NoPush => 1,
-        PushSize::Bytes(n) => 1 + n as usize,
+    match push_size(opcode) {
+        Some(n) => 1 + usize::from(n),
+        None => 1,
     }
 }

@@ -1,16 +1,16 @@
 -- 'Layouts tried by hand': the first ten lines as theorems of the definitions, from the building calls and what is lent to the replies,
 -- the offsets and the code, in one list under one theorem. A reply is in document 01's numbers. Assumes nothing.
+use Rattle.std.specs.Prelude.{None, Option, Some}
 use Prim.Native.Nat.{ℕ}
 use mathlib.Core.Path.{◌≡◌, refl}
 use mathlib.Core.Bool.{Bool, true, false}
 use mathlib.Core.List.{List, [], ◌∷◌, map}
 use lib.ListN.{replicate}
+use Rattle.units.specs.declared.RefSize.{RefSize}
 use Rattle.units.specs.Numbers.{held_bytes, big_endian}
 use Rattle.units.specs.Reference.{least_size, size, too_narrow}
 use Rattle.units.specs.Reply.{Reply, accepted, refused}
 use Rattle.units.specs.declared.RefSize.TheVariants.{S1}
-use Rattle.units.specs.declared.SetSize.{SetSize}
-use Rattle.units.specs.declared.SetSize.TheVariants.{Unsized, Sized}
 use Rattle.units.specs.declared.MarkReference.TheVariants.{Direct, Delta}
 use Rattle.slices.specs.First.{least_from}
 use Rattle.slices.specs.Over.{over}
@@ -37,15 +37,15 @@ op b = push (push_op_byte b)
 abbrev pub «data» : List ℕ → Call
 «data» bs = push (push_data bs)
 
-abbrev pub ref : Bool → SetSize → ℕ → Call
+abbrev pub ref : Bool → Option RefSize → ℕ → Call
 ref pushed size m = push (push_reference (record { mark_ref = Direct (record { 0 = m }); set_size = size; pushed = pushed }))
 
 abbrev pub delta : ℕ → ℕ → Call
 delta a b =
-    push (push_reference (record { mark_ref = Delta (record { start = record { 0 = a }; end = record { 0 = b } }); set_size = Unsized; pushed = true }))
+    push (push_reference (record { mark_ref = Delta (record { start = record { 0 = a }; end = record { 0 = b } }); set_size = None; pushed = true }))
 
 -- lines 6 to 8: a reference, so much data, the mark
-abbrev pub far : SetSize → ℕ → List Call
+abbrev pub far : Option RefSize → ℕ → List Call
 far size n = ref true size 0 ∷ «data» (replicate n 0) ∷ placing 0 ∷ []
 
 -- a line: the calls, the table's length; the reply of assembly, the offsets and the code that are expected
@@ -66,19 +66,19 @@ lines =
     -- 1: empty: no code, 1 pass
     line [] 0 (written 0 1) [] []
     -- 2: mark 0, pushed ref 0: 5f
-    ∷ line (placing 0 ∷ ref true Unsized 0 ∷ []) 1 (written 1 1) (0 ∷ []) (0x5f ∷ [])
+    ∷ line (placing 0 ∷ ref true None 0 ∷ []) 1 (written 1 1) (0 ∷ []) (0x5f ∷ [])
     -- 3: mark 0, raw ref 0: 00
-    ∷ line (placing 0 ∷ ref false Unsized 0 ∷ []) 1 (written 1 1) (0 ∷ []) (0x00 ∷ [])
+    ∷ line (placing 0 ∷ ref false None 0 ∷ []) 1 (written 1 1) (0 ∷ []) (0x00 ∷ [])
     -- 4: mark 0, pushed ref 0 size 1: 60 00
-    ∷ line (placing 0 ∷ ref true (Sized S1) 0 ∷ []) 1 (written 2 1) (0 ∷ []) (0x60 ∷ 0x00 ∷ [])
+    ∷ line (placing 0 ∷ ref true (Some S1) 0 ∷ []) 1 (written 2 1) (0 ∷ []) (0x60 ∷ 0x00 ∷ [])
     -- 5: pushed ref 0, mark 0, op 5b: 60 02 5b, 2 passes
-    ∷ line (ref true Unsized 0 ∷ placing 0 ∷ op 0x5b ∷ []) 1 (written 3 2) (2 ∷ []) (0x60 ∷ 0x02 ∷ 0x5b ∷ [])
+    ∷ line (ref true None 0 ∷ placing 0 ∷ op 0x5b ∷ []) 1 (written 3 2) (2 ∷ []) (0x60 ∷ 0x02 ∷ 0x5b ∷ [])
     -- 6: pushed ref 0, 253 data bytes, mark 0: 60 ff and data, 2 passes
-    ∷ line (far Unsized 253) 1 (written 255 2) (255 ∷ []) (0x60 ∷ 0xff ∷ replicate 253 0)
+    ∷ line (far None 253) 1 (written 255 2) (255 ∷ []) (0x60 ∷ 0xff ∷ replicate 253 0)
     -- 7: with 254: 61 01 01 and data, mark at 257, 3 passes
-    ∷ line (far Unsized 254) 1 (written 257 3) (257 ∷ []) (0x61 ∷ 0x01 ∷ 0x01 ∷ replicate 254 0)
+    ∷ line (far None 254) 1 (written 257 3) (257 ∷ []) (0x61 ∷ 0x01 ∷ 0x01 ∷ replicate 254 0)
     -- 8: as 7, size 1: number 10, section 0, pass 1
-    ∷ line (far (Sized S1) 254) 1 (refused 10 0 1) (0 ∷ []) []
+    ∷ line (far (Some S1) 254) 1 (refused 10 0 1) (0 ∷ []) []
     -- 9: mark 0, data aa bb, mark 1, pushed delta 0 to 1: aa bb 60 02; from 1 to 0: number 12, section 3
     ∷ line (placing 0 ∷ «data» (0xaa ∷ 0xbb ∷ []) ∷ placing 1 ∷ delta 0 1 ∷ []) 2 (written 4 1) (0 ∷ 2 ∷ []) (0xaa ∷ 0xbb ∷ 0x60 ∷ 0x02 ∷ [])
     ∷ line (placing 0 ∷ «data» (0xaa ∷ 0xbb ∷ []) ∷ placing 1 ∷ delta 1 0 ∷ []) 2 (refused 12 3 1) (0 ∷ 0 ∷ []) []

@@ -1,5 +1,6 @@
 -- Settling and then writing, on stores (document 02, request 3): line 7 through the demand-3 clauses of both calls, by the table that
 -- settling leaves; and line 6, where the write's clause fails of the table 256, which is written too. Assumes nothing.
+use Rattle.std.specs.Prelude.{None}
 use Prim.Native.Nat.{ℕ, ◌≤◌}
 use native.Mathlib.Omega.{arith}
 use mathlib.Core.Path.{◌≡◌, refl, sym, ap}
@@ -7,7 +8,6 @@ use mathlib.Core.List.{List, [], ◌∷◌}
 use lib.ListN.{replicate}
 use Rattle.units.specs.Numbers.{held_bytes, big_endian}
 use Rattle.units.specs.Reference.{least_size, size, too_narrow}
-use Rattle.units.specs.declared.SetSize.TheVariants.{Unsized}
 use Rattle.records.specs.Record.{set_size_of, read_mark, read_span, read_direct, read_delta, read_section}
 use Rattle.records.specs.Store.{bad_counts}
 use Rattle.records.specs.Damage.{end_before, spans_end, breaks_rule, bad_count, broken_reply, whole_soundness}
@@ -83,9 +83,9 @@ line_7_writes_least l h =
 -- ---- line 6 and the table 256
 
 -- line 6 meets the premise
-premise_6 : Premise 1 (far Unsized 253)
+premise_6 : Premise 1 (far None 253)
 unfolding first_short short_at first_unplaced unplaced_at first_apart apart_at delta_at least_from placed some_bytes sum_of
-premise_6 = premise 1 (far Unsized 253) refl refl refl refl (omega arith) (omega arith)
+premise_6 = premise 1 (far None 253) refl refl refl refl (omega arith) (omega arith)
 
 -- so does its store
 pub line_6_given : Given 3 (far_store 253) 1 (room_for 253) 0
@@ -111,5 +111,5 @@ pub not_demand_3_256 : Demand3 3 (far_store 253) 1 (room_for 253) 0
 unfolding decode decode_from decode_at read_section read_mark read_span read_direct read_delta set_size_of placed
 not_demand_3_256 h =
     let q = (h line_6_given).if_written 256 2 (rw (line_6_settling, line_6_write_256)) in
-    let earlier : 256 ≤ 255 = (q.least (settled_layout (255 ∷ []) (far Unsized 253)) least_255.enough).0 0 refl in
+    let earlier : 256 ≤ 255 = (q.least (settled_layout (255 ∷ []) (far None 253)) least_255.enough).0 0 refl in
     omega arith

@@ -1,5 +1,6 @@
 -- Of 'Layouts tried by hand', through demand 3: line 7, line 8 and a padded layout of line 6 over lists, and line 7 once more as a store.
 -- So the premises can be met, and the least layout is the one that is written. Assumes nothing.
+use Rattle.std.specs.Prelude.{None, Option, Some}
 use Prim.Native.Nat.{ℕ, ◌+◌, ◌-◌, ◌*◌, ◌^◌, ◌≤◌, ◌<◌}
 use native.Mathlib.Omega.{arith}
 use native.Mathlib.Nat.{lt_of_lt_of_le}
@@ -8,17 +9,16 @@ use mathlib.Core.Bool.{true}
 use mathlib.Core.Logic.{inr}
 use mathlib.Core.List.{List, [], ◌∷◌}
 use lib.ListN.{length, replicate}
+use Rattle.units.specs.declared.RefSize.{RefSize}
 use Rattle.units.specs.Numbers.{held_bytes}
 use Rattle.units.specs.Reference.{least_size, size, too_narrow}
 use Rattle.units.specs.declared.RefSize.TheVariants.{S1}
-use Rattle.units.specs.declared.SetSize.{SetSize}
-use Rattle.units.specs.declared.SetSize.TheVariants.{Unsized, Sized}
 use Rattle.units.specs.declared.MarkReference.TheVariants.{Direct}
 use Rattle.units.proofs.BigEndian.{pow256_mono}
 use Rattle.records.specs.Record.{set_size_of, read_mark, read_span, read_direct, read_delta, read_section}
 use Rattle.records.specs.Store.{Store, bad_counts}
 use Rattle.records.specs.Damage.{end_before, spans_end, breaks_rule, bad_count, broken_reply, whole_soundness}
-use Rattle.records.specs.declared.damage.Soundness.TheVariants.{Sound}
+use Rattle.records.specs.Damage.{Sound}
 use Rattle.records.specs.Sections.{Section, mark, bytes, reference, decode_at, decode_from, decode}
 use Rattle.slices.specs.First.{least_from}
 use Rattle.layout.specs.Layout.{Layout, total, in_all, GivesEnough}
@@ -34,7 +34,7 @@ use Rattle.assembler.specs.Demand3.{Given}
 use Rattle.assembler.proofs.Demand3.{demand_3_assembly}
 
 -- lines 6 and 7: a reference to the mark after so much data
-abbrev pub far : SetSize → ℕ → List Section
+abbrev pub far : Option RefSize → ℕ → List Section
 far size n = reference (record { mark_ref = Direct (record { 0 = 0 }); set_size = size; pushed = true }) ∷ bytes (replicate n 0) ∷ mark 0 ∷ []
 
 -- ---- over lists
@@ -54,42 +54,42 @@ premise n ss short direct placing apart few small =
     }
 
 -- line 7 meets the premise
-premise_7 : Premise 1 (far Unsized 254)
+premise_7 : Premise 1 (far None 254)
 unfolding first_short short_at first_unplaced unplaced_at first_apart apart_at delta_at least_from placed some_bytes sum_of
-premise_7 = premise 1 (far Unsized 254) refl refl refl refl (omega arith) (omega arith)
+premise_7 = premise 1 (far None 254) refl refl refl refl (omega arith) (omega arith)
 
 -- what is settled
-settled_7 : settle 1 (far Unsized 254) ≡ settled (257 ∷ []) 257 3
+settled_7 : settle 1 (far None 254) ≡ settled (257 ∷ []) 257 3
 unfolding settle passes pass walk_from start start_from least_size size too_narrow held_bytes
 settled_7 = refl
 
 -- every layout that gives enough has mark 0 at 257 or later, and at least 257 bytes
-pub line_7 : (l : Layout) → GivesEnough (far Unsized 254) l → (257 ≤ l.offset 0) × (257 ≤ in_all l)
+pub line_7 : (l : Layout) → GivesEnough (far None 254) l → (257 ≤ l.offset 0) × (257 ≤ in_all l)
 unfolding placed
 line_7 l h =
-    let q = (demand_3 1 (far Unsized 254) premise_7).least (257 ∷ []) 257 3 settled_7 l h in
+    let q = (demand_3 1 (far None 254) premise_7).least (257 ∷ []) 257 3 settled_7 l h in
     (q.0 0 refl, q.1)
 
 -- line 8 meets the premise
-premise_8 : Premise 1 (far (Sized S1) 254)
+premise_8 : Premise 1 (far (Some S1) 254)
 unfolding first_short short_at first_unplaced unplaced_at first_apart apart_at delta_at least_from placed some_bytes sum_of
-premise_8 = premise 1 (far (Sized S1) 254) refl refl refl refl (omega arith) (omega arith)
+premise_8 = premise 1 (far (Some S1) 254) refl refl refl refl (omega arith) (omega arith)
 
 -- what is refused
-narrow_8 : settle 1 (far (Sized S1) 254) ≡ narrow_at 0 1
+narrow_8 : settle 1 (far (Some S1) 254) ≡ narrow_at 0 1
 unfolding settle passes pass walk_from start start_from least_size size too_narrow held_bytes
 narrow_8 = refl
 
 -- no layout gives enough
-pub line_8 : SomeLayout (far (Sized S1) 254) → ⊥
-line_8 = (demand_3 1 (far (Sized S1) 254) premise_8).otherwise.1 (0, 1, narrow_8)
+pub line_8 : SomeLayout (far (Some S1) 254) → ⊥
+line_8 = (demand_3 1 (far (Some S1) 254) premise_8).otherwise.1 (0, 1, narrow_8)
 
 -- line 6 with a reference of w bytes, mark 0 behind it and the data
 abbrev pub padded : ℕ → Layout
 padded w = record { offset = λ m. w + 253; widths = w ∷ 253 ∷ 0 ∷ [] }
 
 -- 3, 4 and 5 bytes give enough too, and are longer than the 255 bytes that are settled
-pub line_6_padded : (w : ℕ) → 3 ≤ w → w ≤ 5 → GivesEnough (far Unsized 253) (padded w) × (255 < in_all (padded w))
+pub line_6_padded : (w : ℕ) → 3 ≤ w → w ≤ 5 → GivesEnough (far None 253) (padded w) × (255 < in_all (padded w))
 unfolding total
 line_6_padded w l h =
     let room : w + 253 < 256 ^ (w - 1) = lt_of_lt_of_le (omega arith) (pow256_mono {i = 2} (omega arith)) in

@@ -1,4 +1,5 @@
 -- The premise of demand 3, from sections by index to the forms that the theory uses. Assumes nothing.
+use Rattle.std.specs.Prelude.{None, Option, Some}
 use Prim.Native.Nat.{ℕ, suc, ◌+◌, ◌*◌, ◌^◌, ◌≤◌, ◌<◌, suc-le-suc}
 use native.Mathlib.Omega.{arith}
 use mathlib.Core.Path.{◌≡◌, refl, sym, ◌∙◌}
@@ -7,10 +8,9 @@ use mathlib.Core.List.{List, [], ◌∷◌}
 use lib.Dec.{eqb, leb}
 use lib.ListN.{length, take}
 use borrow.Author.Tests.{eqb-true, eq-eqb, not-false}
+use Rattle.units.specs.declared.RefSize.{RefSize}
 use Rattle.units.specs.Reference.{least_size}
 use Rattle.units.specs.declared.AsmReference.{AsmReference}
-use Rattle.units.specs.declared.SetSize.{SetSize}
-use Rattle.units.specs.declared.SetSize.TheVariants.{Unsized, Sized}
 use Rattle.units.specs.declared.MarkReference.{MarkReference}
 use Rattle.units.specs.declared.MarkReference.TheVariants.{Direct, Delta}
 use Rattle.records.specs.Sections.{Section, mark, ops, bytes, reference}
@@ -114,10 +114,10 @@ together ss h = unparted_together ss (unparted ss h)
 -- ---- sums
 
 -- what a reference may grow by, of 4 × A + 3 × B
-growth_counts : (z : SetSize) (p : Bool) → growth z p ≡ 4 * one_if_unsized p z + 3 * one_if_unsized (not p) z
-growth_counts (Sized s) p = refl
-growth_counts Unsized true = refl
-growth_counts Unsized false = refl
+growth_counts : (z : Option RefSize) (p : Bool) → growth z p ≡ 4 * one_if_unsized p z + 3 * one_if_unsized (not p) z
+growth_counts (Some s) p = refl
+growth_counts None true = refl
+growth_counts None false = refl
 
 -- so all may grow by 4 × A + 3 × B
 pub growths_are : (ss : List Section) → growths width_rule ss ≡ pass_bound ss
@@ -129,10 +129,10 @@ growths_are (bytes bs ∷ ss) = omega (arith, growths_are ss)
 growths_are (reference r ∷ ss) = omega (arith, growths_are ss, growth_counts r.set_size r.pushed)
 
 -- one step for an unsized reference, pushed or raw
-step_counts : (z : SetSize) (p : Bool) → step z ≡ one_if_unsized p z + one_if_unsized (not p) z
-step_counts (Sized s) p = refl
-step_counts Unsized true = refl
-step_counts Unsized false = refl
+step_counts : (z : Option RefSize) (p : Bool) → step z ≡ one_if_unsized p z + one_if_unsized (not p) z
+step_counts (Some s) p = refl
+step_counts None true = refl
+step_counts None false = refl
 
 -- so the steps of all are A + B
 pub steps_are : (ss : List Section) → steps_of width_rule ss ≡ unsized_count ss

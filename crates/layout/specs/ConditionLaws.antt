@@ -1,8 +1,8 @@
 -- Document 01, 'Replies', and document 02, request 5: what the tests for 7, 8 with 17 and 18, 9 and 12 (Conditions) say, by positions in a
 -- list of sections and with no search. That they say it is `condition_laws` of proofs/ConditionLaws. Assumes nothing.
 use Rattle.std.specs.Prelude.{ℕ, ◌≤◌, ◌<◌, ◌≡◌, true, ◌↔◌, ◌⊎◌, List, length}
+use Rattle.units.specs.declared.Span.{Span}
 use Rattle.units.specs.declared.MarkId.{MarkId}
-use Rattle.units.specs.declared.MarkSpan.{MarkSpan}
 use Rattle.units.specs.declared.MarkReference.{MarkReference}
 use Rattle.units.specs.declared.MarkReference.TheVariants.{Direct, Delta}
 use Rattle.units.specs.declared.AsmReference.{AsmReference}
@@ -37,10 +37,10 @@ abbrev pub Misses : List Section → ℕ → Missing → Type 0
 -- 8: 'a direct reference's mark only'
 Misses ss i direct_mark = (m : MarkId) × RefersBy ss i (Direct m) × NeverPlaced ss m.0
 -- 17: 'a delta's start unplaced', be its end placed or not: 'If both ends are absent the start is reported'
-Misses ss i delta_start = (d : MarkSpan) × RefersBy ss i (Delta d) × NeverPlaced ss d.start.0
+Misses ss i delta_start = (d : Span MarkId) × RefersBy ss i (Delta d) × NeverPlaced ss d.start.0
 -- 18: 'a delta's end unplaced', its start placed
 Misses ss i delta_end =
-    (d : MarkSpan) × RefersBy ss i (Delta d) × ((j : ℕ) × Places ss j d.start.0) × NeverPlaced ss d.end.0
+    (d : Span MarkId) × RefersBy ss i (Delta d) × ((j : ℕ) × Places ss j d.start.0) × NeverPlaced ss d.end.0
 
 -- 'the first section winning': section i misses this mark, and no earlier one misses any
 abbrev pub FirstMisses : List Section → ℕ → Missing → Type 0
@@ -60,7 +60,7 @@ BytesBetween ss j i = (k : ℕ) × (j < k) × (k < i) × HasBytes (section_at ss
 -- section i is a delta with its end below its start by the table
 abbrev pub EndsBefore : List ℕ → List Section → ℕ → Type 0
 EndsBefore table ss i =
-    (r : AsmReference) × (d : MarkSpan) × (section_at ss i ≡ reference r) × (r.mark_ref ≡ Delta d)
+    (r : AsmReference) × (d : Span MarkId) × (section_at ss i ≡ reference r) × (r.mark_ref ≡ Delta d)
     × (entry table d.end.0 < entry table d.start.0)
 
 -- when each test passes, of section i of a list

@@ -1,11 +1,10 @@
 -- Document 01, module 3 and 'Replies': the conditions for 7, 8 (and, of document 02, request 5, for 17 and 18), 9 and 12 by the first
 -- section that .., those for 10, 11 and settled by the pass that .., and the premise of demand 3. Readings 22 to 25, 79 and 80 of
 -- docs/DECISIONS.md. Assumes nothing.
-use Rattle.std.specs.Prelude.{ℕ, zero, suc, ◌+◌, ◌*◌, ◌^◌, ◌≤◌, ◌<◌, ◌≡◌, Bool, true, false, cond, not, ◌&&◌, ◌||◌, List, [], ◌∷◌, leb, ltb, eqb, length, get_or}
+use Rattle.std.specs.Prelude.{ℕ, zero, suc, ◌+◌, ◌*◌, ◌^◌, ◌≤◌, ◌<◌, ◌≡◌, Bool, true, false, cond, not, ◌&&◌, ◌||◌, List, [], ◌∷◌, leb, ltb, eqb, length, get_or, None, Option, Some}
 use Rattle.std.proofs.Math.Seq.{slice}
+use Rattle.units.specs.declared.RefSize.{RefSize}
 use Rattle.units.specs.Replies.{max_passes}
-use Rattle.units.specs.declared.SetSize.{SetSize}
-use Rattle.units.specs.declared.SetSize.TheVariants.{Unsized, Sized}
 use Rattle.units.specs.declared.AsmReference.{AsmReference}
 use Rattle.units.specs.declared.MarkReference.{MarkReference}
 use Rattle.units.specs.declared.MarkReference.TheVariants.{Direct, Delta}
@@ -175,9 +174,9 @@ per_reference f (bytes bs) = 0
 per_reference f (reference r) = f r
 
 -- 1 for an unsized reference that counts
-abbrev pub one_if_unsized : Bool → SetSize → ℕ
-one_if_unsized counts (Sized s) = 0
-one_if_unsized counts Unsized = cond counts 1 0
+abbrev pub one_if_unsized : Bool → Option RefSize → ℕ
+one_if_unsized counts (Some s) = 0
+one_if_unsized counts None = cond counts 1 0
 
 -- the stored bytes of a list
 abbrev pub stored_bytes : List Section → ℕ

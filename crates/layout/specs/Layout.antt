@@ -1,9 +1,8 @@
 -- Document 01, module 3: what a layout is, and when it gives enough bytes. Reads nothing of tables or passes; no number in it has a
 -- bound beyond the paper's. Assumes nothing.
-use Rattle.std.specs.Prelude.{ℕ, ◌+◌, ◌-◌, ◌^◌, ◌≤◌, ◌<◌, ◌≡◌, Bool, true, false, ◌⊎◌, List, [], ◌∷◌, length}
+use Rattle.std.specs.Prelude.{ℕ, ◌+◌, ◌-◌, ◌^◌, ◌≤◌, ◌<◌, ◌≡◌, Bool, true, false, ◌⊎◌, List, [], ◌∷◌, length, None, Option, Some}
+use Rattle.units.specs.declared.RefSize.{RefSize}
 use Rattle.units.specs.Reference.{ref_size_bytes, op_bytes}
-use Rattle.units.specs.declared.SetSize.{SetSize}
-use Rattle.units.specs.declared.SetSize.TheVariants.{Unsized, Sized}
 use Rattle.units.specs.declared.MarkReference.{MarkReference}
 use Rattle.units.specs.declared.MarkReference.TheVariants.{Direct, Delta}
 use Rattle.units.specs.declared.AsmReference.{AsmReference}
@@ -35,13 +34,13 @@ abbrev pub Holds : ℕ → ℕ → Type 0
 Holds n v = v < 256 ^ n
 
 -- 'a width that holds its value': for a set size, pushed or raw, a value and a width
-abbrev pub HoldsIn : SetSize → Bool → ℕ → ℕ → Type 0
+abbrev pub HoldsIn : Option RefSize → Bool → ℕ → ℕ → Type 0
 -- 'sized, its size, where the set size holds the value'
-HoldsIn (Sized s) pushed v w = (w ≡ ref_size_bytes s + op_bytes pushed) × Holds (ref_size_bytes s) v
+HoldsIn (Some s) pushed v w = (w ≡ ref_size_bytes s + op_bytes pushed) × Holds (ref_size_bytes s) v
 -- 'unsized raw, any 1 to 4 that holds it'
-HoldsIn Unsized false v w = (1 ≤ w) × (w ≤ 4) × Holds w v
+HoldsIn None false v w = (1 ≤ w) × (w ≤ 4) × Holds w v
 -- 'unsized pushed, 1 only for value 0, or any 2 to 5 whose width less 1 holds it'
-HoldsIn Unsized true v w = ((w ≡ 1) × (v ≡ 0)) ⊎ ((2 ≤ w) × (w ≤ 5) × Holds (w - 1) v)
+HoldsIn None true v w = ((w ≡ 1) × (v ≡ 0)) ⊎ ((2 ≤ w) × (w ≤ 5) × Holds (w - 1) v)
 
 -- a reference has a value in the offsets, and the width holds it
 abbrev pub EnoughFor : (ℕ → ℕ) → AsmReference → ℕ → Type 0

@@ -1,13 +1,13 @@
 -- Document 01, module 5, and display.rs (source document 001): the lines of a section, by its kind. Reads nothing of any table or pass.
 -- Assumes nothing.
-use Rattle.std.specs.Prelude.{ℕ, ◌+◌, ◌/◌, ◌%◌, Bool, true, false, cond, List, [], ◌∷◌, ◌++◌, length, ltb, eqb}
+use Rattle.std.specs.Prelude.{ℕ, ◌+◌, ◌/◌, ◌%◌, Bool, true, false, cond, List, [], ◌∷◌, ◌++◌, length, ltb, eqb, None, Option, Some}
+use Rattle.units.specs.declared.Span.{Span}
+use Rattle.units.specs.declared.RefSize.{RefSize}
+use Rattle.units.specs.declared.MarkId.{MarkId}
 use Rattle.evm.specs.YellowPaper.{push_size}
 use Rattle.evm.specs.Walk.{Placed, walk}
 use Rattle.opcodes.specs.Text.{as_bytes}
 use Rattle.opcodes.specs.Names.{op_name}
-use Rattle.units.specs.declared.SetSize.{SetSize}
-use Rattle.units.specs.declared.SetSize.TheVariants.{Unsized, Sized}
-use Rattle.units.specs.declared.MarkSpan.{MarkSpan}
 use Rattle.units.specs.declared.MarkReference.{MarkReference}
 use Rattle.units.specs.declared.MarkReference.TheVariants.{Direct, Delta}
 use Rattle.units.specs.declared.AsmReference.{AsmReference}
@@ -74,7 +74,7 @@ push_text true = as_bytes "  PUSH "
 push_text false = as_bytes "  RAW "
 
 -- '`.mark7` or `(.markEND - .markSTART)`'
-unfoldable pub delta_text : MarkSpan → List ℕ
+unfoldable pub delta_text : Span MarkId → List ℕ
 delta_text d = as_bytes "(" ++ mark_name d.end.0 ++ as_bytes " - " ++ mark_name d.start.0 ++ as_bytes ")"
 
 abbrev pub marks_text : MarkReference → List ℕ
@@ -82,9 +82,9 @@ marks_text (Direct m) = mark_name m.0
 marks_text (Delta d) = delta_text d
 
 -- 'then `:2` if sized'
-abbrev pub size_text : SetSize → List ℕ
-size_text Unsized = []
-size_text (Sized s) = as_bytes ":" ++ decimal (ref_size_bytes s)
+abbrev pub size_text : Option RefSize → List ℕ
+size_text None = []
+size_text (Some s) = as_bytes ":" ++ decimal (ref_size_bytes s)
 
 unfoldable pub reference_line : AsmReference → List ℕ
 reference_line r = push_text r.pushed ++ marks_text r.mark_ref ++ size_text r.set_size ++ as_bytes "\n"

@@ -1,4 +1,5 @@
 -- The definitions of the listing, computed: the listing of document 01's line 12, and the line forms that it lacks. Assumes nothing.
+use Rattle.std.specs.Prelude.{Some}
 use mathlib.Core.Path.{◌≡◌, refl}
 use mathlib.Core.Bool.{false}
 use mathlib.Core.List.{[], ◌∷◌}
@@ -8,7 +9,6 @@ use Rattle.opcodes.specs.Text.{as_bytes}
 use Rattle.opcodes.specs.Names.{lookup, op_names, op_name}
 use Rattle.units.specs.Reference.{unsized_pushed}
 use Rattle.units.specs.declared.RefSize.TheVariants.{S2}
-use Rattle.units.specs.declared.SetSize.TheVariants.{Sized}
 use Rattle.units.specs.declared.MarkReference.TheVariants.{Direct, Delta}
 use Rattle.records.specs.Sections.{mark, ops, bytes, reference}
 use Rattle.lines.specs.Decimal.{last_digits, decimal}
@@ -25,7 +25,7 @@ pub line_12 :
     ∷ mark 1
     ∷ ops (0x5b ∷ [])
     ∷ bytes (0xaa ∷ 0xbb ∷ [])
-    ∷ reference (record { mark_ref = Delta (record { start = record { 0 = 0 }; end = record { 0 = 1 } }); set_size = Sized S2; pushed = false })
+    ∷ reference (record { mark_ref = Delta (record { start = record { 0 = 0 }; end = record { 0 = 1 } }); set_size = Some S2; pushed = false })
     ∷ [])
     ≡ as_bytes ".mark0:\n  JUMPDEST\n  PUSH .mark1\n  JUMP\n.mark1:\n  JUMPDEST\n  data 0xaabb (2 bytes)\n  RAW (.mark1 - .mark0):2\n"
 unfolding is_push push_size instruction_length walk_from walk as_bytes lookup op_names op_name last_digits decimal hex_digit hex mark_name mark_line data_line cut_text immediate_text instruction_line instruction_lines ops_lines delta_text reference_line listing

@@ -1,4 +1,5 @@
 -- How long a listing can be: no more than 2 ^ 30 for a section, so that its length is far below 2 ^ 64. Assumes nothing.
+use Rattle.std.specs.Prelude.{None, Option, Some}
 use Prim.Native.Nat.{ℕ, zero, suc, ◌+◌, ◌*◌, ◌≤◌, ◌^◌}
 use native.Mathlib.Omega.{arith}
 use mathlib.Core.Path.{ap, ◌∙◌}
@@ -7,14 +8,14 @@ use mathlib.Core.List.{List, [], ◌∷◌, ◌++◌}
 use lib.ListN.{length, take, drop, length-append, length-take, length-drop}
 use lib.Seq.{slice}
 use lib.Dec.{ltb, eqb}
+use Rattle.units.specs.declared.RefSize.{RefSize}
+use Rattle.records.specs.declared.record.AsmSection.{AsmSection}
 use Rattle.evm.specs.YellowPaper.{push_size, instruction_length}
 use Rattle.evm.specs.Walk.{Placed, walk_from, walk}
 use Rattle.evm.proofs.Walks.{next_drop}
 use Rattle.opcodes.specs.Text.{as_bytes}
 use Rattle.opcodes.proofs.Naming.{name_fits}
 use Rattle.units.specs.declared.RefSize.TheVariants.{S1, S2, S3, S4}
-use Rattle.units.specs.declared.SetSize.{SetSize}
-use Rattle.units.specs.declared.SetSize.TheVariants.{Unsized, Sized}
 use Rattle.units.specs.declared.MarkReference.{MarkReference}
 use Rattle.units.specs.declared.MarkReference.TheVariants.{Direct, Delta}
 use Rattle.units.specs.declared.AsmReference.{AsmReference}
@@ -22,8 +23,6 @@ use Rattle.records.specs.Record.{max_mark}
 use Rattle.records.specs.Store.{max_bytes}
 use Rattle.records.specs.Sections.{section_read}
 use Rattle.records.specs.declared.record.AsmSection.TheVariants.{Mark, Ops, Data, MarkRef}
-use Rattle.records.specs.declared.record.SectionRead.{SectionRead}
-use Rattle.records.specs.declared.record.SectionRead.TheVariants.{Read, Damaged}
 use Rattle.undamaged.specs.Section.{span_bytes, SmallMarks, ReadIn}
 use Rattle.lines.specs.Lines.{hex, mark_name, mark_line, data_line, cut_text, immediate_text, instruction_line, instruction_lines, ops_lines, push_text, delta_text, marks_text, size_text, reference_line}
 use Rattle.listing.specs.Listing.{section_text}
@@ -100,13 +99,13 @@ unfolding delta_text
 marks_length (Direct m) h = omega (arith, name_length m.0)
 marks_length (Delta d) h = omega (arith, delta_length d.end.0 d.start.0, h.0, h.1)
 
-size_length : (s : SetSize) → length (size_text s) ≤ 6
+size_length : (s : Option RefSize) → length (size_text s) ≤ 6
 unfolding as_bytes
-size_length Unsized = omega arith
-size_length (Sized S1) = omega (arith, decimal_length 1)
-size_length (Sized S2) = omega (arith, decimal_length 2)
-size_length (Sized S3) = omega (arith, decimal_length 3)
-size_length (Sized S4) = omega (arith, decimal_length 4)
+size_length None = omega arith
+size_length (Some S1) = omega (arith, decimal_length 1)
+size_length (Some S2) = omega (arith, decimal_length 2)
+size_length (Some S3) = omega (arith, decimal_length 3)
+size_length (Some S4) = omega (arith, decimal_length 4)
 
 reference_length : (r : AsmReference) → SmallMarks r.mark_ref → length (reference_line r) ≤ 31 + 2 * max_mark
 unfolding reference_line as_bytes
@@ -119,9 +118,9 @@ reference_length r h =
 part_length : (a b : ℕ) (bs : List ℕ) → length (slice a b bs) ≤ b
 part_length a b bs = omega (arith, length-drop a (take b bs), length-take b bs)
 
-pub section_length : (n : ℕ) (bs : List ℕ) (v : SectionRead) → n ≤ max_bytes → ReadIn n v → length (section_text (section_read bs v)) ≤ 2 ^ 30
-section_length n bs Damaged l h = absurd h
-section_length n bs (Read (Mark m)) l h = omega (arith, mark_length m.0)
-section_length n bs (Read (Ops s)) l h = omega (arith, ops_length (span_bytes bs s), part_length s.start.0 s.end.0 bs, h.1)
-section_length n bs (Read (Data s)) l h = omega (arith, data_length (span_bytes bs s), part_length s.start.0 s.end.0 bs, h.1)
-section_length n bs (Read (MarkRef r)) l h = omega (arith, reference_length r h)
+pub section_length : (n : ℕ) (bs : List ℕ) (v : Option AsmSection) → n ≤ max_bytes → ReadIn n v → length (section_text (section_read bs v)) ≤ 2 ^ 30
+section_length n bs None l h = absurd h
+section_length n bs (Some (Mark m)) l h = omega (arith, mark_length m.0)
+section_length n bs (Some (Ops s)) l h = omega (arith, ops_length (span_bytes bs s), part_length s.start.0 s.end.0 bs, h.1)
+section_length n bs (Some (Data s)) l h = omega (arith, data_length (span_bytes bs s), part_length s.start.0 s.end.0 bs, h.1)
+section_length n bs (Some (MarkRef r)) l h = omega (arith, reference_length r h)

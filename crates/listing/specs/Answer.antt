@@ -6,8 +6,8 @@ use Rattle.units.specs.Reply.{Reply, accepted, refused, refusal_reply}
 use Rattle.records.specs.Store.{Store}
 use Rattle.records.specs.Damage.{whole_soundness}
 use Rattle.records.specs.Sections.{decode}
-use Rattle.records.specs.declared.damage.Soundness.{Soundness}
-use Rattle.records.specs.declared.damage.Soundness.TheVariants.{Sound, Damaged}
+use Rattle.records.specs.Damage.{Soundness}
+use Rattle.records.specs.Damage.{Sound, Damaged}
 use Rattle.listing.specs.Listing.{listing}
 use Rattle.listing.specs.declared.Listed.{Listed}
 use Rattle.listing.specs.declared.Listed.TheVariants.{Text, Refused}

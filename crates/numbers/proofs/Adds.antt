@@ -11,7 +11,7 @@ use Rattle.units.specs.Replies.{bad_depth, bad_word, large_mark, bytes_full, sec
 use Rattle.records.specs.Store.{Store, counts_of}
 use Rattle.records.specs.Damage.{last_soundness}
 use Rattle.records.specs.Sections.{Section, ops}
-use Rattle.records.specs.declared.damage.Soundness.TheVariants.{Sound, Damaged}
+use Rattle.records.specs.Damage.{Sound, Damaged}
 use Rattle.calls.specs.Calls.{BuiltReply, Push, has_bad_depth, has_bad_word, has_large_mark, added, joins, joined, appended, with_section, bytes_pass, no_section_left, section_passes, room_reply, add_reply, push_reply, if_stored, add_after, push_after, push_op_bytes, call_reply, call_after}
 use Rattle.calls.specs.Answers.{IsStored}
 use Rattle.calls.specs.AtOnce.{no_byte_left, at_once_reply, at_once_after}

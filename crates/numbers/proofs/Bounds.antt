@@ -17,8 +17,8 @@ use Rattle.records.specs.declared.Assembler.{Assembler}
 use Rattle.records.specs.Store.{Store, counts_of, max_bytes, max_sections, bad_counts}
 use Rattle.records.specs.Sections.{Section}
 use Rattle.records.specs.Damage.{whole_soundness, bad_count, bad_count_building, last_soundness}
-use Rattle.records.specs.declared.damage.Soundness.{Soundness}
-use Rattle.records.specs.declared.damage.Soundness.TheVariants.{Sound, Damaged}
+use Rattle.records.specs.Damage.{Soundness}
+use Rattle.records.specs.Damage.{Sound, Damaged}
 use Rattle.undamaged.specs.View.{DamagedAt, LastBreak}
 use Rattle.undamaged.proofs.Soundness.{damaged_at_iff, last_damaged_iff}
 use Rattle.calls.specs.Calls.{BuiltReply, Push, has_bad_depth, has_bad_word, has_large_mark, added, joins, joined, appended, with_section, bytes_pass, bytes_of, no_section_left, section_passes, room_reply, sound_reply, add_reply, push_reply, push_after, all_reply}

@@ -1,4 +1,5 @@
 -- Laws of forms. Assumes nothing.
+use Rattle.std.specs.Prelude.{Option, None}
 use Prim.Native.Nat.{ℕ, zero, suc, ◌+◌, ◌-◌, ◌%◌, ◌≤◌, ◌<◌}
 use native.Mathlib.Omega.{arith}
 use mathlib.Core.Path.{◌≡◌, refl, sym, ap}
@@ -6,35 +7,34 @@ use mathlib.Core.Bool.{Bool, true, false, ◌&&◌, ◌||◌, true≢false}
 use mathlib.Mathlib.Data.Bool.Basic.{or-eq-false-eq-eq-false-and-eq-false as or-false}
 use lib.Dec.{leb, ltb}
 use borrow.Author.Tests.{le-leb, lt-leb, leb-true, lt-ltb, le-ltb}
-use Rattle.units.specs.declared.SetSize.{SetSize}
+use Rattle.units.specs.declared.RefSize.{RefSize}
 use Rattle.units.specs.declared.MarkReference.{MarkReference}
 use Rattle.units.specs.Reference.{least_size, size_for, too_narrow, size}
 use Rattle.units.specs.Form.{size_number, pushed_number}
 use Rattle.records.specs.Record.{set_size_of, direct_kind, delta_kind, reference_words, stored_section}
 use Rattle.records.specs.Store.{Store}
-use Rattle.numbers.specs.declared.form.Form.TheVariants.{Names, Nothing}
 use Rattle.numbers.specs.Numbers.{names_nothing}
-use Rattle.numbers.specs.Forms.{form_of, direct, delta, formed, reference_number, reference_after, is_form, form_kind}
+use Rattle.numbers.specs.Forms.{named, form_of, direct, delta, formed, reference_number, reference_after, is_form, form_kind}
 
 module _ (n : ℕ) where
-  pub form_raw : (s : SetSize) → n < 5 → s ≡ set_size_of n → Names s false ≡ form_of n
+  pub form_raw : (s : Option RefSize) → n < 5 → s ≡ set_size_of n → named s false ≡ form_of n
   unfolding form_of
   form_raw s l e = rw (e, le-leb n 4 (omega arith))
 
-  pub form_pushed : (s : SetSize) → 8 ≤ n → n < 13 → s ≡ set_size_of (n - 8) → Names s true ≡ form_of n
+  pub form_pushed : (s : Option RefSize) → 8 ≤ n → n < 13 → s ≡ set_size_of (n - 8) → named s true ≡ form_of n
   unfolding form_of
   form_pushed s l h e = rw (e, lt-leb n 4 (omega arith), le-leb 8 n l, le-leb n 12 (omega arith))
 
-  pub form_between : 5 ≤ n → n < 8 → Nothing ≡ form_of n
+  pub form_between : 5 ≤ n → n < 8 → None ≡ form_of n
   unfolding form_of
   form_between l h = rw (lt-leb n 4 (omega arith), lt-leb 8 n h)
 
-  pub form_above : 13 ≤ n → Nothing ≡ form_of n
+  pub form_above : 13 ≤ n → None ≡ form_of n
   unfolding form_of
   form_above l = rw (lt-leb n 4 (omega arith), le-leb 8 n (omega arith), lt-leb n 12 (omega arith))
 
 -- sizes are a matter of the form alone
-pub size_any_mark : (m : MarkReference) (s : SetSize) (p : Bool) (v : ℕ)
+pub size_any_mark : (m : MarkReference) (s : Option RefSize) (p : Bool) (v : ℕ)
     → (size_for (formed m s p) v ≡ size_for (formed (direct 0) s p) v) × (least_size (formed m s p) ≡ least_size (formed (direct 0) s p))
 unfolding size_for too_narrow size least_size
 size_any_mark m s p v = (refl, refl)
@@ -53,13 +53,13 @@ number_back (suc (suc (suc (suc (suc n))))) h = absurd (omega arith)
 
 -- the set size, whether pushed, and the kind of a delta, in a form
 pub record Named (n : ℕ) : Type 0 where
-  pub form : form_of n ≡ Names (set_size_of (n % 8)) (leb 8 n)
+  pub form : form_of n ≡ named (set_size_of (n % 8)) (leb 8 n)
   pub number : size_number (set_size_of (n % 8)) + pushed_number (leb 8 n) ≡ n
   pub kind : form_kind n ≡ size_number (set_size_of (n % 8)) + delta_kind (leb 8 n)
 
 module _ (n : ℕ) where
   -- a number that names nothing
-  pub form_nothing : is_form n ≡ false → form_of n ≡ Nothing
+  pub form_nothing : is_form n ≡ false → form_of n ≡ None
   unfolding form_of
   form_nothing e =
       let both = (or-false (leb n 4) (leb 8 n && leb n 12)).0 e in

@@ -11,7 +11,7 @@ use Rattle.units.specs.Reply.{Reply, accepted, refused}
 use Rattle.records.specs.declared.Assembler.{Assembler}
 use Rattle.records.specs.Store.{Store, max_bytes, max_sections, bad_counts}
 use Rattle.records.specs.Damage.{bad_count, whole_soundness, bad_count_building, last_soundness}
-use Rattle.records.specs.declared.damage.Soundness.TheVariants.{Damaged}
+use Rattle.records.specs.Damage.{Damaged}
 use Rattle.calls.specs.Calls.{BuiltReply, Push, push_reply, all_reply}
 use Rattle.calls.proofs.Refusals.{push_answers}
 use Rattle.calls.proofs.Runs.{first_refused}

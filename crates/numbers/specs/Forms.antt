@@ -1,23 +1,24 @@
 -- The form of a reference as one number, and what the calls with a form answer. Assumes nothing.
-use Rattle.std.specs.Prelude.{ℕ, ◌+◌, ◌-◌, Bool, true, false, cond, ◌&&◌, ◌||◌, List, leb, ltb}
-use Rattle.units.specs.declared.SetSize.{SetSize}
+use Rattle.std.specs.Prelude.{ℕ, ◌+◌, ◌-◌, Bool, true, false, cond, ◌&&◌, ◌||◌, List, leb, ltb, None, Option, Some}
+use Rattle.units.specs.declared.RefSize.{RefSize}
 use Rattle.units.specs.declared.MarkReference.{MarkReference}
 use Rattle.units.specs.declared.MarkReference.TheVariants.{Direct, Delta}
 use Rattle.units.specs.declared.AsmReference.{AsmReference}
-use Rattle.units.specs.declared.SizeFor.{SizeFor}
-use Rattle.units.specs.declared.SizeFor.TheVariants.{Bytes, TooNarrow}
 use Rattle.units.specs.Reference.{least_size, size_for}
 use Rattle.units.specs.Replies.{too_narrow}
 use Rattle.records.specs.Record.{set_size_of, pushed_delta_kind, raw_delta_kind}
 use Rattle.records.specs.Store.{Store}
 use Rattle.calls.specs.Calls.{push_reference, push_reply, push_after}
 use Rattle.numbers.specs.declared.form.Form.{Form}
-use Rattle.numbers.specs.declared.form.Form.TheVariants.{Names, Nothing}
 use Rattle.numbers.specs.Numbers.{packed, names_nothing, built_number}
 
+-- a form that names a set size, and whether it is pushed
+abbrev pub named : Option RefSize → Bool → Option Form
+named s p = Some (record { set_size = s; pushed = p })
+
 -- set size plus 8 if pushed: 0 to 4, 8 to 12
-unfoldable pub form_of : ℕ → Form
-form_of n = cond (leb n 4) (Names (set_size_of n) false) (cond (leb 8 n && leb n 12) (Names (set_size_of (n - 8)) true) Nothing)
+unfoldable pub form_of : ℕ → Option Form
+form_of n = cond (leb n 4) (named (set_size_of n) false) (cond (leb 8 n && leb n 12) (named (set_size_of (n - 8)) true) None)
 
 -- 'direct (one mark)'
 abbrev pub direct : ℕ → MarkReference
@@ -28,35 +29,35 @@ abbrev pub delta : ℕ → ℕ → MarkReference
 delta start end = Delta (record { start = record { 0 = start }; end = record { 0 = end } })
 
 -- either in a form
-abbrev pub formed : MarkReference → SetSize → Bool → AsmReference
+abbrev pub formed : MarkReference → Option RefSize → Bool → AsmReference
 formed m s p = record { mark_ref = m; set_size = s; pushed = p }
 
 -- the answer to pushing a reference of a form
-abbrev pub reference_number : ℕ → MarkReference → Form → Store → ℕ
-reference_number w m (Names s p) st = built_number (push_reply w (push_reference (formed m s p)) st)
-reference_number w m Nothing st = names_nothing
+abbrev pub reference_number : ℕ → MarkReference → Option Form → Store → ℕ
+reference_number w m (Some f) st = built_number (push_reply w (push_reference (formed m f.set_size f.pushed)) st)
+reference_number w m None st = names_nothing
 
 -- the words afterwards
-abbrev pub reference_after : ℕ → MarkReference → Form → Store → List ℕ
-reference_after w m (Names s p) st = (push_after w (push_reference (formed m s p)) st).words
-reference_after w m Nothing st = st.words
+abbrev pub reference_after : ℕ → MarkReference → Option Form → Store → List ℕ
+reference_after w m (Some f) st = (push_after w (push_reference (formed m f.set_size f.pushed)) st).words
+reference_after w m None st = st.words
 
 -- a size as an answer
-abbrev pub size_number : SizeFor → ℕ
-size_number (Bytes n) = packed 0 0 n
-size_number TooNarrow = packed too_narrow 0 0
+abbrev pub size_number : Option ℕ → ℕ
+size_number (Some n) = packed 0 0 n
+size_number None = packed too_narrow 0 0
 
 -- the size of a form for a value; no size depends on the marks (`size_any_mark`, proofs/Forms)
-abbrev pub size_for_number : Form → ℕ → ℕ
-size_for_number (Names s p) v = size_number (size_for (formed (direct 0) s p) v)
-size_for_number Nothing v = names_nothing
+abbrev pub size_for_number : Option Form → ℕ → ℕ
+size_for_number (Some f) v = size_number (size_for (formed (direct 0) f.set_size f.pushed) v)
+size_for_number None v = names_nothing
 
 -- its least size
-abbrev pub least_size_number : Form → ℕ
-least_size_number (Names s p) = packed 0 0 (least_size (formed (direct 0) s p))
-least_size_number Nothing = names_nothing
+abbrev pub least_size_number : Option Form → ℕ
+least_size_number (Some f) = packed 0 0 (least_size (formed (direct 0) f.set_size f.pushed))
+least_size_number None = names_nothing
 
--- a form that names something: `form_of` answers `Names` exactly for these (`form_named`, `form_nothing`, proofs/Forms)
+-- a form that names something: `form_of` answers `Some` exactly for these (`form_named`, `form_nothing`, proofs/Forms)
 abbrev pub is_form : ℕ → Bool
 is_form n = leb n 4 || leb 8 n && leb n 12
 

@@ -5,24 +5,30 @@ ghost use Rattle.numbers.specs.Forms.{form_of, formed, is_form, form_kind};
 
 use records::{kind, set_size_of};
 use units::form::{MAX, MAX_SIZE, PUSHED};
-use units::{AsmReference, MarkReference, SetSize};
+use units::{AsmReference, MarkReference, RefSize};
 
-// What a form names.
-#[derive(Clone, Copy)]
-pub enum Form {
-    Names(SetSize, bool),
-    Nothing,
+// What a form names: a set size, none if unsized, and whether the reference is pushed.
+#[derive(Clone, Copy, Debug, PartialEq, Eq)]
+pub struct Form {
+    pub set_size: Option<RefSize>,
+    pub pushed: bool,
 }
 
-// The form of a number.
+// The form of a number, if it is one.
 #[tactic(auto, using(crate::proofs::Forms::form_raw, crate::proofs::Forms::form_pushed, crate::proofs::Forms::form_between, crate::proofs::Forms::form_above))]
-pub fn form_of(form: u32) -> Form
+pub fn form_of(form: u32) -> Option<Form>
     ensures { result ≡ form_of form }
 {
     match form {
-        0..=4 => Form::Names(set_size_of(form), false),
-        8..=12 => Form::Names(set_size_of(form - PUSHED), true),
-        _ => Form::Nothing,
+        0..=4 => Some(Form {
+            set_size: set_size_of(form),
+            pushed: false,
+        }),
+        8..=12 => Some(Form {
+            set_size: set_size_of(form - PUSHED),
+            pushed: true,
+        }),
+        _ => None,
     }
 }
 

@@ -11,7 +11,7 @@ use Rattle.records.specs.Store.{Store, max_bytes, max_sections, section_words, b
 use Rattle.records.specs.Damage.{is_span, broken_section, broken_last, end_before, spans_end, breaks_rule, bad_count, broken_reply, whole_soundness, last_broken, bad_count_building, last_soundness}
 use Rattle.slices.proofs.First.{NoneBefore, search_start, search_next, search_hit, search_done}
 use Rattle.records.specs.declared.record.StoredSection.{StoredSection}
-use Rattle.records.specs.declared.damage.Soundness.{Soundness}
+use Rattle.records.specs.Damage.{Soundness}
 
 -- a test and the test the other way round
 pub ltb_not_leb : (a b : ℕ) → ltb a b ≡ not (leb b a)

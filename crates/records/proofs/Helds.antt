@@ -1,118 +1,115 @@
 -- A section as the tests for number 6 read it: what the words say of it, and what the definitions ask of it. Assumes nothing.
+use Rattle.std.specs.Prelude.{None, Option, Some}
 use Prim.Native.Nat.{ℕ}
 use mathlib.Core.Path.{◌≡◌, refl, sym, ap, ◌∙◌, subst}
 use mathlib.Core.Bool.{Bool, true, false, cond, not, ◌&&◌, ◌||◌, true≢false}
 use lib.Dec.{leb, ltb, eqb}
 use borrow.Author.Tests.{eqb-true, eq-eqb, ne_eqb}
-use Rattle.units.specs.declared.BytesSpan.{BytesSpan}
+use Rattle.units.specs.declared.Span.{Span}
+use Rattle.units.specs.declared.AsmBytesIdx.{AsmBytesIdx}
 use Rattle.records.specs.Record.{max_mark, span, read_mark, read_span, read_direct, read_delta, read_section}
 use Rattle.records.specs.Damage.{unreadable, is_span, broken_section, broken_last}
-use Rattle.records.specs.Held.{held_by, held_read, ends_elsewhere, span_misplaced, is_misplaced, end_after}
+use Rattle.records.specs.Held.{Held, held_by, held_read, ends_elsewhere, span_misplaced, is_misplaced, end_after}
 use Rattle.records.specs.declared.record.AsmSection.{AsmSection}
 use Rattle.records.specs.declared.record.AsmSection.TheVariants.{Ops, Data}
-use Rattle.records.specs.declared.record.SectionRead.{SectionRead}
 use Rattle.records.specs.declared.record.StoredSection.{StoredSection}
-use Rattle.records.specs.declared.damage.Held.{Held}
-use Rattle.records.specs.declared.damage.Held.TheVariants.{Bytes, Nothing}
-use Rattle.records.specs.declared.damage.HeldRead.{HeldRead}
-use Rattle.records.specs.declared.damage.HeldRead.TheVariants.{Read, Damaged}
 use Rattle.slices.proofs.Tests.{or-false}
 use Rattle.records.proofs.Reading.{section_ops, section_data}
 
 -- what can be read holds this
-abbrev Holds : Held → SectionRead → Type 0
-Holds h x = unreadable x ≡ false → Read h ≡ held_read x
+abbrev Holds : Held → Option AsmSection → Type 0
+Holds h x = unreadable x ≡ false → Some h ≡ held_read x
 
-holds_damaged : (h : Held) → Holds h SectionRead.Damaged
+holds_damaged : (h : Held) → Holds h None
 holds_damaged h e = absurd (true≢false e)
 
-holds_cond : (h : Held) (t : Bool) (x y : SectionRead) → Holds h x → Holds h y → Holds h (cond t x y)
+holds_cond : (h : Held) (t : Bool) (x y : Option AsmSection) → Holds h x → Holds h y → Holds h (cond t x y)
 holds_cond h true x y p q = p
 holds_cond h false x y p q = q
 
-holds_else : (h : Held) (t : Bool) (x y : SectionRead) → t ≡ false → Holds h y → Holds h (cond t x y)
+holds_else : (h : Held) (t : Bool) (x y : Option AsmSection) → t ≡ false → Holds h y → Holds h (cond t x y)
 holds_else h true x y e q = absurd (true≢false e)
 holds_else h false x y e q = q
 
 module _ (a b : ℕ) where
-  no_damage : Holds Nothing SectionRead.Damaged
-  no_damage = holds_damaged Nothing
+  no_damage : Holds None None
+  no_damage = holds_damaged None
 
-  mark_holds : Holds Nothing (read_mark a b)
+  mark_holds : Holds None (read_mark a b)
   unfolding read_mark
-  mark_holds = holds_cond Nothing (leb a max_mark && eqb b 0) _ _ (λ e. refl) no_damage
+  mark_holds = holds_cond None (leb a max_mark && eqb b 0) _ _ (λ e. refl) no_damage
 
-  direct_holds : Holds Nothing (read_direct a b)
+  direct_holds : Holds None (read_direct a b)
   unfolding read_direct
   direct_holds =
-      holds_cond Nothing (ltb max_mark a) _ _ no_damage
-      (holds_cond Nothing (leb b 4) _ _ (λ e. refl) (holds_cond Nothing (leb 8 b && leb b 12) _ _ (λ e. refl) no_damage))
+      holds_cond None (ltb max_mark a) _ _ no_damage
+      (holds_cond None (leb b 4) _ _ (λ e. refl) (holds_cond None (leb 8 b && leb b 12) _ _ (λ e. refl) no_damage))
 
-  delta_holds : (s : ℕ) (p : Bool) → Holds Nothing (read_delta s p a b)
+  delta_holds : (s : ℕ) (p : Bool) → Holds None (read_delta s p a b)
   unfolding read_delta
-  delta_holds s p = holds_cond Nothing (leb a max_mark && leb b max_mark) _ _ (λ e. refl) no_damage
+  delta_holds s p = holds_cond None (leb a max_mark && leb b max_mark) _ _ (λ e. refl) no_damage
 
-  span_holds : (f : BytesSpan → AsmSection) → held_by (f (span a b)) ≡ Bytes (span a b) → Holds (Bytes (span a b)) (read_span f a b)
+  span_holds : (f : Span AsmBytesIdx → AsmSection) → held_by (f (span a b)) ≡ Some (span a b) → Holds (Some (span a b)) (read_span f a b)
   unfolding read_span
-  span_holds f e = holds_cond (Bytes (span a b)) (leb a b) _ _ (λ _. ap Read (sym e)) (holds_damaged (Bytes (span a b)))
+  span_holds f e = holds_cond (Some (span a b)) (leb a b) _ _ (λ _. ap Some (sym e)) (holds_damaged (Some (span a b)))
 
-pub held_damaged : (x : SectionRead) → unreadable x ≡ true → Damaged ≡ held_read x
-held_damaged (SectionRead.Read s) e = absurd (true≢false (sym e))
-held_damaged SectionRead.Damaged e = refl
+pub held_damaged : (x : Option AsmSection) → unreadable x ≡ true → None ≡ held_read x
+held_damaged (Some s) e = absurd (true≢false (sym e))
+held_damaged None e = refl
 
 -- a section by its words
 module _ (r : StoredSection) where
-  pub held_span : is_span r.kind ≡ true → Holds (Bytes (span r.first r.second)) (read_section r)
+  pub held_span : is_span r.kind ≡ true → Holds (Some (span r.first r.second)) (read_section r)
   held_span s = go (eqb r.kind 1) refl s
     where
-      go : (q : Bool) → eqb r.kind 1 ≡ q → (q || eqb r.kind 2) ≡ true → Holds (Bytes (span r.first r.second)) (read_section r)
-      go true e t = subst (λ (x : SectionRead). Holds (Bytes (span r.first r.second)) x) (section_ops r _ (eqb-true r.kind 1 e) refl) (span_holds r.first r.second Ops refl)
-      go false e t = subst (λ (x : SectionRead). Holds (Bytes (span r.first r.second)) x) (section_data r _ (eqb-true r.kind 2 t) refl) (span_holds r.first r.second Data refl)
+      go : (q : Bool) → eqb r.kind 1 ≡ q → (q || eqb r.kind 2) ≡ true → Holds (Some (span r.first r.second)) (read_section r)
+      go true e t = subst (λ (x : Option AsmSection). Holds (Some (span r.first r.second)) x) (section_ops r _ (eqb-true r.kind 1 e) refl) (span_holds r.first r.second Ops refl)
+      go false e t = subst (λ (x : Option AsmSection). Holds (Some (span r.first r.second)) x) (section_data r _ (eqb-true r.kind 2 t) refl) (span_holds r.first r.second Data refl)
 
-  pub held_nothing : is_span r.kind ≡ false → Holds Nothing (read_section r)
+  pub held_nothing : is_span r.kind ≡ false → Holds None (read_section r)
   unfolding read_section
   held_nothing s =
       let n = or-false (eqb r.kind 1) (eqb r.kind 2) s in
-      holds_cond Nothing (eqb r.kind 0) _ _ (mark_holds r.first r.second)
-      (holds_else Nothing (eqb r.kind 1) _ _ n.0
-      (holds_else Nothing (eqb r.kind 2) _ _ n.1
-      (holds_cond Nothing (eqb r.kind 3) _ _ (direct_holds r.first r.second)
-      (holds_cond Nothing (ltb r.kind 9) _ _ (delta_holds r.first r.second _ _)
-      (holds_cond Nothing (ltb r.kind 14) _ _ (delta_holds r.first r.second _ _) (holds_damaged Nothing))))))
+      holds_cond None (eqb r.kind 0) _ _ (mark_holds r.first r.second)
+      (holds_else None (eqb r.kind 1) _ _ n.0
+      (holds_else None (eqb r.kind 2) _ _ n.1
+      (holds_cond None (eqb r.kind 3) _ _ (direct_holds r.first r.second)
+      (holds_cond None (ltb r.kind 9) _ _ (delta_holds r.first r.second _ _)
+      (holds_cond None (ltb r.kind 14) _ _ (delta_holds r.first r.second _ _) (holds_damaged None))))))
 
 -- the fields of a reading
-abbrev is_damaged : HeldRead → Bool
-is_damaged (Read h) = false
-is_damaged Damaged = true
+abbrev is_damaged : Option Held → Bool
+is_damaged (Some h) = false
+is_damaged None = true
 
-abbrev held_in : HeldRead → Held
-held_in (Read h) = h
-held_in Damaged = Nothing
+abbrev held_in : Option Held → Held
+held_in (Some h) = h
+held_in None = None
 
-damaged_as : (x : SectionRead) → unreadable x ≡ is_damaged (held_read x)
-damaged_as (SectionRead.Read s) = refl
-damaged_as SectionRead.Damaged = refl
+damaged_as : (x : Option AsmSection) → unreadable x ≡ is_damaged (held_read x)
+damaged_as (Some s) = refl
+damaged_as None = refl
 
 module _ (r : StoredSection) where
-  damaged : Damaged ≡ held_read (read_section r) → unreadable (read_section r) ≡ true
+  damaged : None ≡ held_read (read_section r) → unreadable (read_section r) ≡ true
   damaged e = damaged_as (read_section r) ∙ ap is_damaged (sym e)
 
   -- a damaged reading leaves the walk
-  pub damaged_broken : (previous : ℕ) (is_last : Bool) (stored : ℕ) → Damaged ≡ held_read (read_section r) → broken_section r previous is_last stored ≡ true
+  pub damaged_broken : (previous : ℕ) (is_last : Bool) (stored : ℕ) → None ≡ held_read (read_section r) → broken_section r previous is_last stored ≡ true
   damaged_broken previous is_last stored e = rw (damaged e)
 
-  pub damaged_last : (stored : ℕ) → Damaged ≡ held_read (read_section r) → broken_last r stored ≡ true
+  pub damaged_last : (stored : ℕ) → None ≡ held_read (read_section r) → broken_last r stored ≡ true
   damaged_last stored e = rw (damaged e)
 
   -- what was read is asked
-  module _ (h : Held) (e : Read h ≡ held_read (read_section r)) where
+  module _ (h : Held) (e : Some h ≡ held_read (read_section r)) where
     readable : unreadable (read_section r) ≡ false
     readable = damaged_as (read_section r) ∙ ap is_damaged (sym e)
 
-    is_bytes : is_span r.kind ≡ true → h ≡ Bytes (span r.first r.second)
+    is_bytes : is_span r.kind ≡ true → h ≡ Some (span r.first r.second)
     is_bytes s = ap held_in (e ∙ sym (held_span r s readable))
 
-    is_nothing : is_span r.kind ≡ false → h ≡ Nothing
+    is_nothing : is_span r.kind ≡ false → h ≡ None
     is_nothing s = ap held_in (e ∙ sym (held_nothing r s readable))
 
     pub held_broken : (previous : ℕ) (is_last : Bool) (stored : ℕ) → broken_section r previous is_last stored ≡ is_misplaced h previous is_last stored
@@ -137,7 +134,7 @@ module _ (r : StoredSection) where
         go false s = rw (s, is_nothing s)
 
 -- where bytes stand
-module _ (s : BytesSpan) (previous : ℕ) (is_last : Bool) (stored : ℕ) where
+module _ (s : Span AsmBytesIdx) (previous : ℕ) (is_last : Bool) (stored : ℕ) where
   pub start_elsewhere : (s.start.0 ≡ previous → ⊥) → true ≡ span_misplaced s previous is_last stored
   start_elsewhere n =
       let u : eqb s.start.0 previous ≡ false = ne_eqb _ _ n in

@@ -5,7 +5,8 @@ use mathlib.Core.Path.{◌≡◌, refl, sym, ap, ◌∙◌}
 use mathlib.Core.Bool.{Bool, true, false, cond, ◌&&◌, ◌||◌, true≢false}
 use lib.Dec.{ltb, eqb}
 use borrow.Author.Tests.{eqb-true, eqb-false, ltb-true, ltb-false, ne_eqb, lt-ltb, le-ltb}
-use Rattle.units.specs.declared.BytesSpan.{BytesSpan}
+use Rattle.units.specs.declared.Span.{Span}
+use Rattle.units.specs.declared.AsmBytesIdx.{AsmBytesIdx}
 use Rattle.records.specs.Record.{max_mark, read_mark, read_span, read_direct, read_delta, read_section}
 use Rattle.records.specs.Damage.{unreadable, is_span}
 use Rattle.records.specs.declared.record.AsmSection.{AsmSection}
@@ -57,7 +58,7 @@ module _ (a b : ℕ) where
       go false true e d = ap unreadable (delta_end_lem a b s p (ltb-false max_mark a e) (ltb-true max_mark b d))
       go false false e d = ap unreadable (delta_read a b _ s p (ltb-false max_mark a e) (ltb-false max_mark b d) refl)
 
-  bad_span : (f : BytesSpan → AsmSection) → ltb b a ≡ unreadable (read_span f a b)
+  bad_span : (f : Span AsmBytesIdx → AsmSection) → ltb b a ≡ unreadable (read_span f a b)
   bad_span f = go (ltb b a) refl
     where
       go : (q : Bool) → ltb b a ≡ q → q ≡ unreadable (read_span f a b)

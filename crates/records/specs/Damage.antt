@@ -1,18 +1,27 @@
 -- Document 01, module 2: when a store is damaged, and the section that number 6 reports; and the lesser test of a building call.
 -- Readings 1 to 5 of docs/DECISIONS.md. Assumes nothing.
-use Rattle.std.specs.Prelude.{ℕ, zero, suc, ◌-◌, Bool, true, false, cond, not, ◌&&◌, ◌||◌, ltb, eqb}
+use Rattle.std.specs.Prelude.{ℕ, zero, suc, ◌-◌, Bool, true, false, cond, not, ◌&&◌, ◌||◌, ltb, eqb, None, Option, Some, Result, Ok, Err}
+use Rattle.records.specs.declared.record.AsmSection.{AsmSection}
 use Rattle.slices.specs.First.{least_from}
 use Rattle.records.specs.Record.{read_section, ops_kind, data_kind}
 use Rattle.records.specs.Store.{Store, section_words, bad_counts}
-use Rattle.records.specs.declared.record.SectionRead.{SectionRead}
-use Rattle.records.specs.declared.record.SectionRead.TheVariants.{Read, Damaged}
 use Rattle.records.specs.declared.record.StoredSection.{StoredSection}
-use Rattle.records.specs.declared.damage.Soundness.{Soundness}
+use Rattle.records.specs.declared.damage.Damage.{Damage}
+
+-- what the tests for 6 find: sound, or the section that number 6 reports
+pub data Soundness : Type 0 where
+  Sound : Soundness
+  Damaged : ℕ → Soundness
+
+-- what a test answers stands for, whatever it gives where it accepts
+abbrev pub soundness_of : {A : Type 0} → Result A Damage → Soundness
+soundness_of (Ok _) = Sound
+soundness_of (Err d) = Damaged d.section
 
 -- an unlisted kind or field, a mark number too large, a start that exceeds its end
-abbrev pub unreadable : SectionRead → Bool
-unreadable (Read s) = false
-unreadable Damaged = true
+abbrev pub unreadable : Option AsmSection → Bool
+unreadable (Some s) = false
+unreadable None = true
 
 -- an Ops or Data section, by its kind word alone
 abbrev pub is_span : ℕ → Bool
@@ -51,11 +60,11 @@ bad_count w st = bad_counts w st || ltb 0 st.stored_bytes && eqb (spans_end w st
 
 -- the first section that breaks a rule is damaged
 unfoldable pub broken_reply : ℕ → Store → Soundness
-broken_reply w st = cond (ltb (first_broken w st) st.sections) (Soundness.Damaged (first_broken w st)) Soundness.Sound
+broken_reply w st = cond (ltb (first_broken w st) st.sections) (Damaged (first_broken w st)) Sound
 
 -- the whole test: bad counts come before any section
 unfoldable pub whole_soundness : ℕ → Store → Soundness
-whole_soundness w st = cond (bad_count w st) (Soundness.Damaged 0) (broken_reply w st)
+whole_soundness w st = cond (bad_count w st) (Damaged 0) (broken_reply w st)
 
 -- a building call tests in the last section only that it can be read and, for Ops or Data, that it ends at the stored count
 abbrev pub broken_last : StoredSection → ℕ → Bool
@@ -72,5 +81,5 @@ bad_count_building w st = bad_counts w st || ltb 0 st.stored_bytes && eqb st.sec
 -- a building call's test
 unfoldable pub last_soundness : ℕ → Store → Soundness
 last_soundness w st =
-    cond (bad_count_building w st) (Soundness.Damaged 0)
-    (cond (ltb 0 st.sections && last_broken w st (st.sections - 1)) (Soundness.Damaged (st.sections - 1)) Soundness.Sound)
+    cond (bad_count_building w st) (Damaged 0)
+    (cond (ltb 0 st.sections && last_broken w st (st.sections - 1)) (Damaged (st.sections - 1)) Sound)

@@ -1,14 +1,12 @@
 -- The list view: the sections that a store holds, as a list, with the bytes of Ops and Data in them. Everything above the store
 -- speaks of this list. Assumes nothing.
-use Rattle.std.specs.Prelude.{ℕ, zero, suc, List, [], ◌∷◌}
+use Rattle.std.specs.Prelude.{ℕ, zero, suc, List, [], ◌∷◌, None, Option, Some}
 use Rattle.std.proofs.Math.Seq.{slice}
 use Rattle.units.specs.declared.AsmReference.{AsmReference}
 use Rattle.records.specs.Record.{read_section}
 use Rattle.records.specs.Store.{Store, section_words}
 use Rattle.records.specs.declared.record.AsmSection.{AsmSection}
 use Rattle.records.specs.declared.record.AsmSection.TheVariants.{Mark, Ops, Data, MarkRef}
-use Rattle.records.specs.declared.record.SectionRead.{SectionRead}
-use Rattle.records.specs.declared.record.SectionRead.TheVariants.{Read, Damaged}
 
 -- a mark, ops, data or a reference, with the bytes that it holds
 pub data Section : Type 0 where
@@ -26,9 +24,9 @@ section_of bs (Data s) = bytes (slice s.start.0 s.end.0 bs)
 section_of bs (MarkRef r) = reference r
 
 -- (an undamaged store has no damaged section)
-abbrev pub section_read : List ℕ → SectionRead → Section
-section_read bs (Read s) = section_of bs s
-section_read bs Damaged = mark 0
+abbrev pub section_read : List ℕ → Option AsmSection → Section
+section_read bs (Some s) = section_of bs s
+section_read bs None = mark 0
 
 -- section i of a store
 unfoldable pub decode_at : ℕ → Store → ℕ → Section

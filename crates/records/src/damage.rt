@@ -2,72 +2,70 @@
 ghost use Rattle.std.specs.Prelude.{◌≡◌, cond, ◌&&◌, ◌+◌, ◌*◌, ◌≤◌, ltb, eqb, length};
 ghost use Rattle.records.specs.Store.{store_of, words_per_section, words_at, bad_counts};
 ghost use Rattle.records.specs.Record.{read_section, max_mark, mark_kind, direct_kind};
-ghost use Rattle.records.specs.Damage.{unreadable, is_span, spans_end, broken_reply, whole_soundness, last_soundness};
+ghost use Rattle.records.specs.Damage.{unreadable, is_span, spans_end, broken_reply, soundness_of, whole_soundness, last_soundness};
+ghost use Rattle.units.specs.declared.reply.Refusal.TheVariants as refusal;
 ghost use Rattle.records.specs.Held.{held_by, held_read, ends_elsewhere, span_misplaced, is_misplaced, end_after};
 
-use crate::record::{AsmSection, SectionRead, StoredSection, read_section};
+use crate::record::{AsmSection, StoredSection, read_section};
 use crate::{Assembler, kind};
-use units::{AsmBytesIdx, BytesSpan, form};
+use units::{AsmBytesIdx, Refusal, Span, form};
 
-// Sound, or the section that number 6 reports.
-#[derive(Clone, Copy)]
-pub enum Soundness {
-    Sound,
-    Damaged(u32),
+// A damaged store: the section that number 6 reports.
+#[derive(Clone, Copy, Debug, PartialEq, Eq)]
+pub struct Damage {
+    pub section: u32,
 }
 
-// What the tests need of a section that can be read: the span of Ops or Data, or nothing of a mark or a reference.
-#[derive(Clone, Copy)]
-enum Held {
-    Bytes(BytesSpan),
-    Nothing,
+impl From<Damage> for Refusal {
+    ghost from_gives = { λ damage r. r ≡ refusal.Damaged damage.section };
+
+    fn from(damage: Damage) -> Refusal {
+        Refusal::Damaged {
+            section: damage.section,
+        }
+    }
 }
 
-// What three words are read as here: `SectionRead` without what marks and references hold, so that it stays in registers
-// (docs/PERFORMANCE.md).
-#[derive(Clone, Copy)]
-enum HeldRead {
-    Read(Held),
-    Damaged,
-}
+// What the tests need of a section that can be read: the span of Ops or Data, or nothing of a mark or a reference. It stays in registers,
+// where a whole `AsmSection` goes by way of memory (docs/PERFORMANCE.md).
+type Held = Option<Span<AsmBytesIdx>>;
 
 // The whole test: bad counts first, then the first section that breaks a rule.
-pub fn check_store(store: Assembler, bytes: &[u8], words: &[u32]) -> Soundness
-    ensures { result ≡ whole_soundness words_per_section (store_of store bytes.now words.now) }
+pub fn check_store(store: Assembler, bytes: &[u8], words: &[u32]) -> Result<(), Damage>
+    ensures { soundness_of result ≡ whole_soundness words_per_section (store_of store bytes.now words.now) }
 {
     if counts_are_bad(store, bytes, words) {
-        return Soundness::Damaged(0);
+        return Err(Damage { section: 0 });
     }
     let spans = spans_end(store, bytes, words);
     if bytes_unheld(store.bytes, spans) {
-        return Soundness::Damaged(0);
+        return Err(Damage { section: 0 });
     }
     check_sections(store, bytes, words, spans)
 }
 
 // A building call's test: the counts, and the last section only.
-pub fn check_last(store: Assembler, bytes: &[u8], words: &[u32]) -> Soundness
-    ensures { result ≡ last_soundness words_per_section (store_of store bytes.now words.now) }
+pub fn check_last(store: Assembler, bytes: &[u8], words: &[u32]) -> Result<(), Damage>
+    ensures { soundness_of result ≡ last_soundness words_per_section (store_of store bytes.now words.now) }
 {
     if counts_are_bad(store, bytes, words) {
-        return Soundness::Damaged(0);
+        return Err(Damage { section: 0 });
     }
     if bytes_unheld(store.bytes, store.sections) {
-        return Soundness::Damaged(0);
+        return Err(Damage { section: 0 });
     }
     let sections = store.sections;
     if sections == 0 {
-        return Soundness::Sound;
+        return Ok(());
     }
     let last = sections - 1;
-    let read = read_section(section_words(words, last as usize));
-    let SectionRead::Read(section) = read else {
-        return Soundness::Damaged(last);
+    let Some(section) = read_section(section_words(words, last as usize)) else {
+        return Err(Damage { section: last });
     };
     if ends_elsewhere(held_by(section), store.bytes) {
-        Soundness::Damaged(last)
+        Err(Damage { section: last })
     } else {
-        Soundness::Sound
+        Ok(())
     }
 }
 
@@ -126,14 +124,10 @@ fn spans_end(store: Assembler, bytes: &[u8], words: &[u32]) -> u32
     requires { words_per_section * store.sections ≤ length words.now }
     ensures { result ≡ spans_end words_per_section (store_of store bytes.now words.now) store.sections }
 {
-    let mut passed: u32 = 0;
-    while passed < store.sections {
-        let n = store.sections - passed;
-        let section = section_words(words, (n - 1) as usize);
-        if is_span(section.kind) {
-            return n;
+    for i in (0..store.sections).rev() {
+        if is_span(section_words(words, i as usize).kind) {
+            return i + 1;
         }
-        passed += 1;
     }
     0
 }
@@ -170,19 +164,19 @@ fn is_unreadable(section: StoredSection) -> bool
 }
 
 // The section that three words stand for, or damaged.
-fn read_held(section: StoredSection) -> HeldRead
+fn read_held(section: StoredSection) -> Option<Held>
     ensures { result ≡ held_read (read_section section) }
 {
     if is_unreadable(section) {
-        return HeldRead::Damaged;
+        return None;
     }
     if is_span(section.kind) {
-        HeldRead::Read(Held::Bytes(BytesSpan {
+        Some(Some(Span {
             start: AsmBytesIdx(section.first),
             end: AsmBytesIdx(section.second),
         }))
     } else {
-        HeldRead::Read(Held::Nothing)
+        Some(None)
     }
 }
 
@@ -191,10 +185,10 @@ fn held_by(section: AsmSection) -> Held
     ensures { result ≡ held_by section }
 {
     match section {
-        AsmSection::Mark(_) => Held::Nothing,
-        AsmSection::Ops(span) => Held::Bytes(span),
-        AsmSection::Data(span) => Held::Bytes(span),
-        AsmSection::MarkRef(_) => Held::Nothing,
+        AsmSection::Mark(_) => None,
+        AsmSection::Ops(span) => Some(span),
+        AsmSection::Data(span) => Some(span),
+        AsmSection::MarkRef(_) => None,
     }
 }
 
@@ -203,13 +197,13 @@ fn ends_elsewhere(held: Held, stored: u32) -> bool
     ensures { result ≡ ends_elsewhere held stored }
 {
     match held {
-        Held::Bytes(span) => span.end.0 != stored,
-        Held::Nothing => false,
+        Some(span) => span.end.0 != stored,
+        None => false,
     }
 }
 
 // Bytes that start elsewhere than at the previous end, or, the last, end elsewhere than at the stored count.
-fn span_misplaced(span: BytesSpan, previous_end: u32, is_last: bool, stored: u32) -> bool
+fn span_misplaced(span: Span<AsmBytesIdx>, previous_end: u32, is_last: bool, stored: u32) -> bool
     ensures { result ≡ span_misplaced span previous_end is_last stored }
 {
     if span.start.0 != previous_end {
@@ -223,8 +217,8 @@ fn is_misplaced(held: Held, previous_end: u32, is_last: bool, stored: u32) -> bo
     ensures { result ≡ is_misplaced held previous_end is_last stored }
 {
     match held {
-        Held::Bytes(span) => span_misplaced(span, previous_end, is_last, stored),
-        Held::Nothing => false,
+        Some(span) => span_misplaced(span, previous_end, is_last, stored),
+        None => false,
     }
 }
 
@@ -233,30 +227,26 @@ fn end_after(held: Held, end: u32) -> u32
     ensures { result ≡ end_after held end }
 {
     match held {
-        Held::Bytes(span) => span.end.0,
-        Held::Nothing => end,
+        Some(span) => span.end.0,
+        None => end,
     }
 }
 
 // The first section that breaks a rule.
-fn check_sections(store: Assembler, bytes: &[u8], words: &[u32], spans: u32) -> Soundness
+fn check_sections(store: Assembler, bytes: &[u8], words: &[u32], spans: u32) -> Result<(), Damage>
     requires sections_in_bounds { words_per_section * store.sections ≤ length words.now }
     requires spans_value { spans ≡ spans_end words_per_section (store_of store bytes.now words.now) store.sections }
-    ensures { result ≡ broken_reply words_per_section (store_of store bytes.now words.now) }
+    ensures { soundness_of result ≡ broken_reply words_per_section (store_of store bytes.now words.now) }
 {
-    let mut i: u32 = 0;
     let mut end: u32 = 0;
-    while i < store.sections {
-        let next = i + 1;
-        let read = read_held(section_words(words, i as usize));
-        let HeldRead::Read(held) = read else {
-            return Soundness::Damaged(i);
+    for i in 0..store.sections {
+        let Some(held) = read_held(section_words(words, i as usize)) else {
+            return Err(Damage { section: i });
         };
-        if is_misplaced(held, end, next == spans, store.bytes) {
-            return Soundness::Damaged(i);
+        if is_misplaced(held, end, i + 1 == spans, store.bytes) {
+            return Err(Damage { section: i });
         }
         end = end_after(held, end);
-        i = next;
     }
-    Soundness::Sound
+    Ok(())
 }

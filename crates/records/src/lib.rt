@@ -9,10 +9,9 @@ mod record;
 ghost use Rattle.std.specs.Prelude.{◌≡◌};
 ghost use Rattle.records.specs.Store.{empty_counts};
 
-pub use damage::{Soundness, check_last, check_store};
+pub use damage::{Damage, check_last, check_store};
 pub use record::{
-    AsmSection, SectionRead, StoredSection, form_of, read_section, reference_words, set_size_of,
-    write_words,
+    AsmSection, StoredSection, form_of, read_section, reference_words, set_size_of, write_words,
 };
 
 // A store: the count of sections and the count of stored bytes, over a lent byte slice and a lent slice of words.

@@ -1,42 +1,35 @@
 // One section: read from its three words, a reference put into words, and three words written.
-ghost use Rattle.std.specs.Prelude.{◌≡◌, ◌*◌};
+ghost use Rattle.std.specs.Prelude.{◌≡◌, ◌*◌, Some, None, cond, leb};
 ghost use Rattle.slices.specs.Over.{over_if_room};
-ghost use Rattle.records.specs.Record.{read_section, read_mark, read_span, read_direct, read_delta, read_ref, set_size_of};
+ghost use Rattle.records.specs.Record.{read_section, read_mark, span, read_direct, read_delta, read_ref, set_size_of};
 ghost use Rattle.records.specs.Record.{reference_words, form_of, stored_section};
 ghost use Rattle.records.specs.Store.{words_per_section, record_words};
 
 use crate::{Assembler, kind};
 use units::{
-    AsmBytesIdx, AsmReference, BytesSpan, MarkId, MarkReference, MarkSpan, RefSize, SetSize, form,
+    AsmBytesIdx, AsmReference, MarkId, MarkReference, RefSize, Span, form, set_size_number,
 };
 
 // A section as it is read back.
-#[derive(Clone, Copy)]
+#[derive(Clone, Copy, Debug, PartialEq, Eq)]
 pub enum AsmSection {
     Mark(MarkId),
-    Ops(BytesSpan),
-    Data(BytesSpan),
+    Ops(Span<AsmBytesIdx>),
+    Data(Span<AsmBytesIdx>),
     MarkRef(AsmReference),
 }
 
-// What three words are read as.
-#[derive(Clone, Copy)]
-pub enum SectionRead {
-    Read(AsmSection),
-    Damaged,
-}
-
 // The three words of a section.
-#[derive(Clone, Copy)]
+#[derive(Clone, Copy, Debug, PartialEq, Eq)]
 pub struct StoredSection {
     pub kind: u32,
     pub first: u32,
     pub second: u32,
 }
 
-// The section that three words stand for, or damaged: an unlisted kind or field, a mark number too large, a start past its end.
+// The section that three words stand for, none if it is damaged: an unlisted kind or field, a mark number too large, a start past its end.
 #[tactic(auto, using(crate::proofs::Reading::section_mark, crate::proofs::Reading::section_ops, crate::proofs::Reading::section_data, crate::proofs::Reading::section_direct, crate::proofs::Reading::section_pushed_delta, crate::proofs::Reading::section_raw_delta, crate::proofs::Reading::section_unlisted))]
-pub fn read_section(words: StoredSection) -> SectionRead
+pub fn read_section(words: StoredSection) -> Option<AsmSection>
     ensures { result ≡ read_section words }
 {
     let kind = words.kind;
@@ -44,8 +37,8 @@ pub fn read_section(words: StoredSection) -> SectionRead
     let second = words.second;
     match kind {
         kind::MARK => read_mark(first, second),
-        kind::OPS => read_ops(first, second),
-        kind::DATA => read_data(first, second),
+        kind::OPS => Some(AsmSection::Ops(read_span(first, second)?)),
+        kind::DATA => Some(AsmSection::Data(read_span(first, second)?)),
         kind::DIRECT => read_direct(first, second),
         kind::PUSHED_DELTA..=kind::LAST_PUSHED_DELTA => read_delta(
             kind - kind::PUSHED_DELTA,
@@ -54,53 +47,43 @@ pub fn read_section(words: StoredSection) -> SectionRead
             second,
         ),
         kind::RAW_DELTA..=kind::LAST => read_delta(kind - kind::RAW_DELTA, false, first, second),
-        _ => SectionRead::Damaged,
+        _ => None,
     }
 }
 
-fn read_mark(first: u32, second: u32) -> SectionRead
+#[tactic(auto, using(crate::proofs::Reading::mark_large, crate::proofs::Reading::mark_read, crate::proofs::Reading::mark_field))]
+fn read_mark(first: u32, second: u32) -> Option<AsmSection>
     ensures { result ≡ read_mark first second }
 {
     if first > Assembler::MAX_MARK {
-        return SectionRead::Damaged;
+        return None;
     }
     if second == 0 {
-        SectionRead::Read(AsmSection::Mark(MarkId(first)))
+        Some(AsmSection::Mark(MarkId(first)))
     } else {
-        SectionRead::Damaged
+        None
     }
 }
 
-fn read_ops(first: u32, second: u32) -> SectionRead
-    ensures { result ≡ read_span AsmSection.Ops first second }
+// The span of Ops or Data.
+fn read_span(first: u32, second: u32) -> Option<Span<AsmBytesIdx>>
+    ensures { result ≡ cond (leb first second) (Some (span first second)) None }
 {
     if first > second {
-        return SectionRead::Damaged;
+        return None;
     }
-    SectionRead::Read(AsmSection::Ops(BytesSpan {
+    Some(Span {
         start: AsmBytesIdx(first),
         end: AsmBytesIdx(second),
-    }))
-}
-
-fn read_data(first: u32, second: u32) -> SectionRead
-    ensures { result ≡ read_span AsmSection.Data first second }
-{
-    if first > second {
-        return SectionRead::Damaged;
-    }
-    SectionRead::Read(AsmSection::Data(BytesSpan {
-        start: AsmBytesIdx(first),
-        end: AsmBytesIdx(second),
-    }))
+    })
 }
 
 #[tactic(auto, using(crate::proofs::Reading::direct_large, crate::proofs::Reading::direct_raw, crate::proofs::Reading::direct_pushed, crate::proofs::Reading::direct_between, crate::proofs::Reading::direct_above))]
-fn read_direct(first: u32, second: u32) -> SectionRead
+fn read_direct(first: u32, second: u32) -> Option<AsmSection>
     ensures { result ≡ read_direct first second }
 {
     if first > Assembler::MAX_MARK {
-        return SectionRead::Damaged;
+        return None;
     }
     match second {
         0..=form::MAX_SIZE => read_ref(MarkReference::Direct(MarkId(first)), second, false),
@@ -109,21 +92,22 @@ fn read_direct(first: u32, second: u32) -> SectionRead
             second - form::PUSHED,
             true,
         ),
-        _ => SectionRead::Damaged,
+        _ => None,
     }
 }
 
-fn read_delta(size: u32, pushed: bool, first: u32, second: u32) -> SectionRead
+#[tactic(auto, using(crate::proofs::Reading::delta_start_lem, crate::proofs::Reading::delta_end_lem, crate::proofs::Reading::delta_read))]
+fn read_delta(size: u32, pushed: bool, first: u32, second: u32) -> Option<AsmSection>
     ensures { result ≡ read_delta size pushed first second }
 {
     if first > Assembler::MAX_MARK {
-        return SectionRead::Damaged;
+        return None;
     }
     if second > Assembler::MAX_MARK {
-        return SectionRead::Damaged;
+        return None;
     }
     read_ref(
-        MarkReference::Delta(MarkSpan {
+        MarkReference::Delta(Span {
             start: MarkId(first),
             end: MarkId(second),
         }),
@@ -132,10 +116,10 @@ fn read_delta(size: u32, pushed: bool, first: u32, second: u32) -> SectionRead
     )
 }
 
-fn read_ref(mark_ref: MarkReference, size: u32, pushed: bool) -> SectionRead
+fn read_ref(mark_ref: MarkReference, size: u32, pushed: bool) -> Option<AsmSection>
     ensures { result ≡ read_ref mark_ref size pushed }
 {
-    SectionRead::Read(AsmSection::MarkRef(AsmReference {
+    Some(AsmSection::MarkRef(AsmReference {
         mark_ref,
         set_size: set_size_of(size),
         pushed,
@@ -143,15 +127,15 @@ fn read_ref(mark_ref: MarkReference, size: u32, pushed: bool) -> SectionRead
 }
 
 // The set size that 0 (unsized) to 4 stand for; a larger number counts as 4.
-pub fn set_size_of(size: u32) -> SetSize
+pub fn set_size_of(size: u32) -> Option<RefSize>
     ensures { result ≡ set_size_of size }
 {
     match size {
-        0 => SetSize::Unsized,
-        1 => SetSize::Sized(RefSize::S1),
-        2 => SetSize::Sized(RefSize::S2),
-        3 => SetSize::Sized(RefSize::S3),
-        _ => SetSize::Sized(RefSize::S4),
+        0 => None,
+        1 => Some(RefSize::S1),
+        2 => Some(RefSize::S2),
+        3 => Some(RefSize::S3),
+        _ => Some(RefSize::S4),
     }
 }
 
@@ -159,10 +143,8 @@ pub fn set_size_of(size: u32) -> SetSize
 pub fn reference_words(r: AsmReference) -> StoredSection
     ensures { result ≡ reference_words r }
 {
-    let mark_ref = r.mark_ref;
-    let set_size = r.set_size;
-    let size = set_size.number();
-    match mark_ref {
+    let size = set_size_number(r.set_size);
+    match r.mark_ref {
         MarkReference::Direct(id) => StoredSection {
             kind: kind::DIRECT,
             first: id.0,

@@ -2,6 +2,7 @@
 -- steps, a table that grows, the answers to lines 7, 8 and 12 of 01's layouts tried by hand and to a loop of runs of op bytes, a reference
 -- behind a mark that moves, and marks with bytes between their placings. Files are checked by their names' order; this one's has it refuse
 -- a wrong definition first, at what it computes. Assumes nothing.
+use Rattle.std.specs.Prelude.{None, Option, Some}
 use Prim.Native.Nat.{ℕ, zero, suc, ◌+◌, ◌*◌, max}
 use native.Mathlib.Omega.{arith}
 use mathlib.Core.Path.{◌≡◌, refl}
@@ -9,9 +10,8 @@ use mathlib.Core.Bool.{Bool, true, false}
 use mathlib.Core.List.{List, [], ◌∷◌, ◌++◌}
 use mathlib.Core.Option.{none, some}
 use lib.ListN.{replicate}
+use Rattle.units.specs.declared.RefSize.{RefSize}
 use Rattle.units.specs.declared.RefSize.TheVariants.{S1}
-use Rattle.units.specs.declared.SetSize.{SetSize}
-use Rattle.units.specs.declared.SetSize.TheVariants.{Unsized, Sized}
 use Rattle.opcodes.specs.Text.{as_bytes}
 use Rattle.opcodes.specs.Names.{op_name, lookup, op_names}
 use Rattle.rust_model.specs.Run.{done, panic, Build, add_u32, sub_u32, checked_sub, index, index_mut, range, len_idx, pushed}
@@ -77,11 +77,11 @@ unfolding saturating_sub
 rust_saturated = refl
 
 -- a raw reference of value 0 is a byte 00, a pushed one PUSH0
-rust_raw_zero : emit_ref Unsized false 0 ≡ done (0x00 ∷ [])
+rust_raw_zero : emit_ref None false 0 ≡ done (0x00 ∷ [])
 unfolding emit_ref emit_bytes bytes_to_hold le_bytes
 rust_raw_zero = refl
 
-rust_pushed_zero : emit_ref Unsized true 0 ≡ done (0x5f ∷ [])
+rust_pushed_zero : emit_ref None true 0 ≡ done (0x5f ∷ [])
 unfolding emit_ref
 rust_pushed_zero = refl
 
@@ -108,20 +108,20 @@ rust_grown_twice build = refl
 
 -- ---- lines 7 and 8: a pushed reference, 254 bytes of data, the mark
 
-abbrev direct : SetSize → StoredAsmSection
+abbrev direct : Option RefSize → StoredAsmSection
 direct size = DirectMarkRef 0 size true
 
 -- what the calls of a reference, 254 bytes of data and the mark come to
-abbrev pub far_store : SetSize → Assembler
+abbrev pub far_store : Option RefSize → Assembler
 far_store size = record { bytes = replicate 254 0; sections = direct size ∷ Data (record { start = 0; end = 254 }) ∷ Mark 0 ∷ [] }
 
 -- the Rust's own answer to line 7: 61 01 01 and the data, the mark at 257
-pub rust_7 : (build : Build) → assemble build doubling none (far_store Unsized) [] ≡ done (assembled (257 ∷ replicate 127 0) (0x61 ∷ 0x01 ∷ 0x01 ∷ replicate 254 0))
+pub rust_7 : (build : Build) → assemble build doubling none (far_store None) [] ≡ done (assembled (257 ∷ replicate 127 0) (0x61 ∷ 0x01 ∷ 0x01 ∷ replicate 254 0))
 unfolding assemble converge grow resize start_from walk_from iterate emit_from emit_ref emit_bytes index index_mut add_u32 sub_u32 range bytes_to_hold le_bytes saturating_sub
 rust_7 build = refl
 
 -- and to line 8: section 0
-pub rust_8 : (build : Build) → assemble build doubling none (far_store (Sized S1)) [] ≡ done (too_small_set_size 0)
+pub rust_8 : (build : Build) → assemble build doubling none (far_store (Some S1)) [] ≡ done (too_small_set_size 0)
 unfolding assemble converge grow resize start_from walk_from iterate index index_mut add_u32 sub_u32 bytes_to_hold saturating_sub
 rust_8 build = refl
 
@@ -135,7 +135,7 @@ show_store =
       sections =
           Mark 0
           ∷ Ops (record { start = 0; end = 1 })
-          ∷ DirectMarkRef 1 Unsized true
+          ∷ DirectMarkRef 1 None true
           ∷ Ops (record { start = 1; end = 2 })
           ∷ Mark 1
           ∷ Ops (record { start = 2; end = 3 })
@@ -175,7 +175,7 @@ abbrev pub loop_store : Assembler
 loop_store =
     record {
       bytes = 0x5b ∷ 0x5f ∷ 0x50 ∷ 0x56 ∷ [];
-      sections = Mark 0 ∷ Ops (record { start = 0; end = 3 }) ∷ DirectMarkRef 0 Unsized true ∷ Ops (record { start = 3; end = 4 }) ∷ [];
+      sections = Mark 0 ∷ Ops (record { start = 0; end = 3 }) ∷ DirectMarkRef 0 None true ∷ Ops (record { start = 3; end = 4 }) ∷ [];
     }
 
 -- the reference is a PUSH0
@@ -197,11 +197,11 @@ behind_store =
     record {
       bytes = replicate 552 0;
       sections =
-          DirectMarkRef 0 (Sized S1) false
-          ∷ DirectMarkRef 1 Unsized true
+          DirectMarkRef 0 (Some S1) false
+          ∷ DirectMarkRef 1 None true
           ∷ Data (record { start = 0; end = 252 })
           ∷ Mark 0
-          ∷ DirectMarkRef 0 (Sized S1) false
+          ∷ DirectMarkRef 0 (Some S1) false
           ∷ Data (record { start = 252; end = 552 })
           ∷ Mark 1
           ∷ [];
@@ -228,7 +228,7 @@ rust_apart : (build : Build)
           Mark 1
           ∷ Ops (record { start = 0; end = 1 })
           ∷ Mark 1
-          ∷ DirectMarkRef 0 (Sized S1) false
+          ∷ DirectMarkRef 0 (Some S1) false
           ∷ Data (record { start = 1; end = 255 })
           ∷ Mark 0
           ∷ [];

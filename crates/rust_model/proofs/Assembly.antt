@@ -13,7 +13,7 @@ use Rattle.units.specs.Replies.{too_narrow}
 use Rattle.units.specs.Reply.{refused, numbers_reply}
 use Rattle.units.specs.declared.MarkReference.{MarkReference}
 use Rattle.units.specs.declared.MarkReference.TheVariants.{Direct, Delta}
-use Rattle.records.specs.declared.damage.Soundness.TheVariants.{Sound}
+use Rattle.records.specs.Damage.{Sound}
 use Rattle.records.specs.Store.{Store, words_per_section}
 use Rattle.records.specs.Sections.{Section, mark, ops, bytes, reference, decode}
 use Rattle.slices.specs.Over.{over}

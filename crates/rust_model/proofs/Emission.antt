@@ -1,4 +1,5 @@
 -- The Rust's emission against 01's, by one table. Assumes nothing.
+use Rattle.std.specs.Prelude.{None, Option, Some}
 use Prim.Native.Nat.{ℕ, zero, suc, ◌+◌, ◌-◌, ◌≤◌, ◌<◌}
 use native.Mathlib.Omega.{arith}
 use mathlib.Core.Path.{◌≡◌, refl, sym, ap, ◌∙◌}
@@ -11,8 +12,6 @@ use Rattle.units.specs.Numbers.{held_bytes, big_endian}
 use Rattle.units.specs.Reference.{ref_size_bytes, narrow, too_narrow}
 use Rattle.units.specs.declared.RefSize.{RefSize}
 use Rattle.units.specs.declared.RefSize.TheVariants.{S1, S2, S3, S4}
-use Rattle.units.specs.declared.SetSize.{SetSize}
-use Rattle.units.specs.declared.SetSize.TheVariants.{Unsized, Sized}
 use Rattle.units.specs.declared.MarkReference.{MarkReference}
 use Rattle.units.specs.declared.MarkReference.TheVariants.{Direct, Delta}
 use Rattle.records.specs.Sections.{Section, mark, ops, bytes, reference}
@@ -51,18 +50,18 @@ bytes_same true s n v e =
 bytes_same false s n v e = low_bytes (as_u32 s) 4 v (size_range s).1 ∙ ap (λ (k : ℕ). big_endian k v) e
 
 -- what is appended for a reference whose set size holds its value
-ref_same : (s : SetSize) (p : Bool) (v : ℕ) → narrow s v ≡ false
+ref_same : (s : Option RefSize) (p : Bool) (v : ℕ) → narrow s v ≡ false
     → emit_ref s p v ≡ done (cond (is_push_zero s p v) (0x5f ∷ []) (opcode p (byte_count s v) ++ big_endian (byte_count s v) v))
 unfolding emit_ref
-ref_same (Sized s) p v h =
+ref_same (Some s) p v h =
     cond_false (ltb (as_u32 s) (as_u32 (bytes_to_hold v))) panic (done (emit_bytes p s v)) (rw (as_bytes_lem s, held_same v) h)
     ∙ ap done (bytes_same p s (ref_size_bytes s) v (as_bytes_lem s))
-ref_same Unsized true v h = go (eqb v 0)
+ref_same None true v h = go (eqb v 0)
   where
     go : (z : Bool) → cond (z && true) (done (0x5f ∷ [])) (done (emit_bytes true (bytes_to_hold v) v)) ≡ done (cond z (0x5f ∷ []) (opcode true (held_bytes v) ++ big_endian (held_bytes v) v))
     go true = refl
     go false = ap done (bytes_same true (bytes_to_hold v) (held_bytes v) v (held_same v))
-ref_same Unsized false v h = go (eqb v 0)
+ref_same None false v h = go (eqb v 0)
   where
     go : (z : Bool) → cond (z && false) (done (0x5f ∷ [])) (done (emit_bytes false (bytes_to_hold v) v)) ≡ done (big_endian (held_bytes v) v)
     go true = ap done (bytes_same false (bytes_to_hold v) (held_bytes v) v (held_same v))

@@ -1,5 +1,6 @@
 -- Lines 7, 8 and 12 of 01's layouts tried by hand, and a list with runs of op bytes, carried through demand 2: the Rust's answer is
 -- computed from its definition, and the theorem says that ours is the same. Assumes nothing.
+use Rattle.std.specs.Prelude.{None, Option, Some}
 use Prim.Native.Nat.{ℕ, ◌+◌, ◌*◌, ◌≤◌}
 use native.Mathlib.Omega.{arith}
 use mathlib.Core.Path.{◌≡◌, refl, sym, ap, ◌∙◌, subst}
@@ -9,9 +10,8 @@ use mathlib.Core.Option.{none}
 use lib.Dec.{leb}
 use lib.ListN.{length, drop, replicate}
 use borrow.Author.Tests.{leb-true, not-true}
+use Rattle.units.specs.declared.RefSize.{RefSize}
 use Rattle.units.specs.declared.RefSize.TheVariants.{S1, S2}
-use Rattle.units.specs.declared.SetSize.{SetSize}
-use Rattle.units.specs.declared.SetSize.TheVariants.{Unsized, Sized}
 use Rattle.units.specs.declared.MarkReference.TheVariants.{Delta}
 use Rattle.records.specs.Store.{max_bytes, max_sections, words_per_section}
 use Rattle.slices.specs.First.{least_from}
@@ -108,20 +108,20 @@ far_bytes = replicate 254 0
 abbrev far_words : List ℕ
 far_words = replicate 9 0
 
-far_builds : (build : Build) (size : SetSize) → Builds build far_bytes far_words (far size 254) (far_store size)
+far_builds : (build : Build) (size : Option RefSize) → Builds build far_bytes far_words (far size 254) (far_store size)
 unfolding calls pushed_data last_mut last_of new_data len_idx fits_from fits_after fits_now is_within
 far_builds build size = record { no_panic = refl; fits = fits_law build far_bytes far_words (far size 254) empty refl }
 
 -- by a lent table of one entry
-far_assembles : (size : SetSize) → Assembles (far_store size) 1
+far_assembles : (size : Option RefSize) → Assembles (far_store size) 1
 unfolding first_short short_at first_unplaced unplaced_at first_apart apart_at least_from placed some_bytes
 far_assembles size = assembles (far_store size) 1 refl refl refl
 
 -- what ours comes to on the same calls, a result lent from position 0
-abbrev far_ours : SetSize → List ℕ → Outcome
+abbrev far_ours : Option RefSize → List ℕ → Outcome
 far_ours size result = assembly words_per_section (built far_bytes far_words (far size 254)) 1 result 0
 
-far_same : (build : Build) (size : SetSize) (result : List ℕ) → SameAssembly (far_store size) [] result 0 (far_ours size result) (assemble build doubling none (far_store size) [])
+far_same : (build : Build) (size : Option RefSize) (result : List ℕ) → SameAssembly (far_store size) [] result 0 (far_ours size result) (assemble build doubling none (far_store size) [])
 far_same build size result = (demand_2 build far_bytes far_words (far size 254) (far_store size) (far_builds build size)).assembly 1 (far_assembles size) doubling doubling_reserves none [] result 0
 
 -- the code that was appended to nothing, as ours wrote it
@@ -139,17 +139,17 @@ carried a table code result ours same fits =
 
 -- line 7: 'With 254: 61 01 01 and data, mark at 257'
 pub line_7 : (result : List ℕ) → 257 ≤ length result
-    → (passes : ℕ) × ((far_ours Unsized result).reply ≡ written 257 passes) × ((far_ours Unsized result).result ≡ over result 0 (0x61 ∷ 0x01 ∷ 0x01 ∷ replicate 254 0))
-    × (entry (far_ours Unsized result).table 0 ≡ 257)
+    → (passes : ℕ) × ((far_ours None result).reply ≡ written 257 passes) × ((far_ours None result).result ≡ over result 0 (0x61 ∷ 0x01 ∷ 0x01 ∷ replicate 254 0))
+    × (entry (far_ours None result).table 0 ≡ 257)
 unfolding placed index
 line_7 result fits =
-    let q = carried (far_store Unsized) (257 ∷ replicate 127 0) (0x61 ∷ 0x01 ∷ 0x01 ∷ replicate 254 0) result (far_ours Unsized result)
-    (subst (SameAssembly (far_store Unsized) [] result 0 (far_ours Unsized result)) (rust_7 release) (far_same release Unsized result)) fits in
+    let q = carried (far_store None) (257 ∷ replicate 127 0) (0x61 ∷ 0x01 ∷ 0x01 ∷ replicate 254 0) result (far_ours None result)
+    (subst (SameAssembly (far_store None) [] result 0 (far_ours None result)) (rust_7 release) (far_same release None result)) fits in
     (q.0, q.1, q.2, sym (done_inj (q.3 0 refl)))
 
 -- line 8: 'As 7, size 1: number 10, section 0'
-pub line_8 : (result : List ℕ) → (passes : ℕ) × ((far_ours (Sized S1) result).reply ≡ refused too_narrow 0 passes)
-line_8 result = subst (SameAssembly (far_store (Sized S1)) [] result 0 (far_ours (Sized S1) result)) (rust_8 release) (far_same release (Sized S1) result)
+pub line_8 : (result : List ℕ) → (passes : ℕ) × ((far_ours (Some S1) result).reply ≡ refused too_narrow 0 passes)
+line_8 result = subst (SameAssembly (far_store (Some S1)) [] result 0 (far_ours (Some S1) result)) (rust_8 release) (far_same release (Some S1) result)
 
 -- ---- line 12: the calls of the program `show`
 
@@ -157,12 +157,12 @@ abbrev show_calls : List Call
 show_calls =
     placing 0
     ∷ op 0x5b
-    ∷ ref true Unsized 1
+    ∷ ref true None 1
     ∷ op 0x56
     ∷ placing 1
     ∷ op 0x5b
     ∷ «data» (0xaa ∷ 0xbb ∷ [])
-    ∷ push (push_reference (record { mark_ref = Delta (record { start = record { 0 = 0 }; end = record { 0 = 1 } }); set_size = Sized S2; pushed = false }))
+    ∷ push (push_reference (record { mark_ref = Delta (record { start = record { 0 = 0 }; end = record { 0 = 1 } }); set_size = Some S2; pushed = false }))
     ∷ []
 
 abbrev show_bytes : List ℕ
@@ -207,7 +207,7 @@ line_12_text buffer fits =
 
 -- the second joins the first, the empty one adds nothing
 abbrev loop_calls : List Call
-loop_calls = placing 0 ∷ push_op_bytes (0x5b ∷ 0x5f ∷ []) ∷ push_op_bytes (0x50 ∷ []) ∷ ref true Unsized 0 ∷ push_op_bytes [] ∷ push_op_bytes (0x56 ∷ []) ∷ []
+loop_calls = placing 0 ∷ push_op_bytes (0x5b ∷ 0x5f ∷ []) ∷ push_op_bytes (0x50 ∷ []) ∷ ref true None 0 ∷ push_op_bytes [] ∷ push_op_bytes (0x56 ∷ []) ∷ []
 
 -- lent slices that are just long enough
 abbrev loop_bytes : List ℕ

@@ -1,4 +1,5 @@
 -- The Rust's lines of an Ops section are the listing's: it goes by an index, the walk by what remains. Assumes nothing.
+use Rattle.std.specs.Prelude.{None, Some}
 use Prim.Native.Nat.{ℕ, zero, suc, ◌+◌, ◌-◌, ◌≤◌, ◌<◌}
 use native.Mathlib.Omega.{arith}
 use mathlib.Core.Path.{◌≡◌, refl, sym, ap, ◌∙◌}
@@ -11,8 +12,6 @@ use lib.Seq.{slice, take-length}
 use borrow.Author.Tests.{ltb-true, ltb-false, lt-ltb, le-ltb}
 use Rattle.evm.specs.YellowPaper.{push_size, instruction_length}
 use Rattle.evm.specs.Opcodes.{op_push_size}
-use Rattle.evm.specs.declared.op.PushSize.{PushSize}
-use Rattle.evm.specs.declared.op.PushSize.TheVariants.{NoPush, Bytes}
 use Rattle.evm.proofs.Opcodes.{push_bytes, push_none}
 use Rattle.opcodes.specs.Text.{as_bytes}
 use Rattle.opcodes.specs.Names.{op_name}
@@ -24,15 +23,15 @@ use Rattle.rust_model.proofs.Text.{hex_same}
 -- ---- the push size
 
 -- the Rust's option as evm has it
-abbrev as_size : Option ℕ → PushSize
-as_size none = NoPush
-as_size (some n) = Bytes n
+abbrev as_size : Option ℕ → Option ℕ
+as_size none = None
+as_size (some n) = Some n
 
 push_size_same : (op : ℕ) → as_size (rust.push_size op) ≡ op_push_size op
 unfolding rust.push_size op_push_size
 push_size_same op = go (leb 0x60 op && leb op 0x7f)
   where
-    go : (b : Bool) → as_size (cond b (some (op - 0x60 + 1)) none) ≡ cond b (Bytes (op - 0x60 + 1)) NoPush
+    go : (b : Bool) → as_size (cond b (some (op - 0x60 + 1)) none) ≡ cond b (Some (op - 0x60 + 1)) None
     go true = refl
     go false = refl
 

@@ -1,5 +1,6 @@
 -- Each building call of the Rust that doesn't panic: ours has no bad depth and no bad word, and the Rust's store gets the section that
 -- ours gets. Assumes nothing.
+use Rattle.std.specs.Prelude.{None, Option, Some}
 use Prim.Native.Nat.{ℕ, ◌+◌, ◌-◌, ◌≤◌}
 use native.Mathlib.Omega.{arith}
 use mathlib.Core.Path.{◌≡◌, refl, sym, ap, ◌∙◌, subst}
@@ -10,10 +11,9 @@ use mathlib.Core.List.{List, [], ◌∷◌, ◌++◌}
 use lib.ListN.{length}
 use lib.Dec.{leb, ltb, eqb}
 use borrow.Author.Tests.{leb-true, eqb-true, le-ltb, ne_eqb}
+use Rattle.units.specs.declared.RefSize.{RefSize}
 use Rattle.units.specs.Numbers.{number}
 use Rattle.units.specs.declared.RefSize.TheVariants.{S1, S2, S3, S4}
-use Rattle.units.specs.declared.SetSize.{SetSize}
-use Rattle.units.specs.declared.SetSize.TheVariants.{Unsized, Sized}
 use Rattle.units.specs.declared.MarkReference.{MarkReference}
 use Rattle.units.specs.declared.MarkReference.TheVariants.{Direct, Delta}
 use Rattle.units.specs.declared.AsmReference.{AsmReference}
@@ -162,18 +162,18 @@ mark_pushed build a a' m k r =
     }
 
 -- the section that `push_reference` stores is read back as the reference
-stored_ref_lem : (m : MarkReference) (s : SetSize) (p : Bool) → from_stored (stored_ref m s p) ≡ MarkRef (record { mark_ref = m; set_size = s; pushed = p })
+stored_ref_lem : (m : MarkReference) (s : Option RefSize) (p : Bool) → from_stored (stored_ref m s p) ≡ MarkRef (record { mark_ref = m; set_size = s; pushed = p })
 stored_ref_lem (Direct id) s p = refl
-stored_ref_lem (Delta span) Unsized true = refl
-stored_ref_lem (Delta span) (Sized S1) true = refl
-stored_ref_lem (Delta span) (Sized S2) true = refl
-stored_ref_lem (Delta span) (Sized S3) true = refl
-stored_ref_lem (Delta span) (Sized S4) true = refl
-stored_ref_lem (Delta span) Unsized false = refl
-stored_ref_lem (Delta span) (Sized S1) false = refl
-stored_ref_lem (Delta span) (Sized S2) false = refl
-stored_ref_lem (Delta span) (Sized S3) false = refl
-stored_ref_lem (Delta span) (Sized S4) false = refl
+stored_ref_lem (Delta span) None true = refl
+stored_ref_lem (Delta span) (Some S1) true = refl
+stored_ref_lem (Delta span) (Some S2) true = refl
+stored_ref_lem (Delta span) (Some S3) true = refl
+stored_ref_lem (Delta span) (Some S4) true = refl
+stored_ref_lem (Delta span) None false = refl
+stored_ref_lem (Delta span) (Some S1) false = refl
+stored_ref_lem (Delta span) (Some S2) false = refl
+stored_ref_lem (Delta span) (Some S3) false = refl
+stored_ref_lem (Delta span) (Some S4) false = refl
 
 reference_pushed : (build : Build) (a a' : Assembler) (x : AsmReference) → Kept a → push_call build (push_reference x) a ≡ done a' → Pushed (push_reference x) a a'
 reference_pushed build a a' x k r =

@@ -1,4 +1,5 @@
 -- The Rust's steps where they don't panic, and its sizes against 01's. Assumes nothing.
+use Rattle.std.specs.Prelude.{None, Option, Some}
 use Prim.Native.Nat.{ℕ, ◌+◌, ◌-◌, ◌≤◌, ◌<◌}
 use native.Mathlib.Nat.{add_comm, add-zero}
 use native.Mathlib.Omega.{arith}
@@ -14,8 +15,6 @@ use Rattle.units.specs.Numbers.{held_bytes}
 use Rattle.units.specs.Reference.{ref_size_bytes, narrow, least, width}
 use Rattle.units.specs.declared.RefSize.{RefSize}
 use Rattle.units.specs.declared.RefSize.TheVariants.{S1, S2, S3, S4}
-use Rattle.units.specs.declared.SetSize.{SetSize}
-use Rattle.units.specs.declared.SetSize.TheVariants.{Unsized, Sized}
 use Rattle.units.specs.declared.MarkReference.{MarkReference}
 use Rattle.units.specs.declared.MarkReference.TheVariants.{Direct, Delta}
 use Rattle.slices.proofs.Tests.{cond_true}
@@ -85,26 +84,26 @@ held_same v = go (leb v 255) (leb v 65535) (leb v 16777215)
     go false false true = refl
     go false false false = refl
 
-pub min_same : (s : SetSize) (p : Bool) → min_ref_size s p ≡ least s p
-min_same (Sized s) true = ap (λ (n : ℕ). n + 1) (as_bytes_lem s)
-min_same (Sized s) false = as_bytes_lem s ∙ omega arith
-min_same Unsized p = refl
+pub min_same : (s : Option RefSize) (p : Bool) → min_ref_size s p ≡ least s p
+min_same (Some s) true = ap (λ (n : ℕ). n + 1) (as_bytes_lem s)
+min_same (Some s) false = as_bytes_lem s ∙ omega arith
+min_same None p = refl
 
-pub ref_size_same : (s : SetSize) (p : Bool) (v : ℕ) → ref_size_for s p v (bytes_to_hold v) ≡ cond (narrow s v) none (some (width s p v))
-ref_size_same (Sized s) true v = go (as_u32 s) (as_u32 (bytes_to_hold v)) (as_bytes_lem s) (held_same v)
+pub ref_size_same : (s : Option RefSize) (p : Bool) (v : ℕ) → ref_size_for s p v (bytes_to_hold v) ≡ cond (narrow s v) none (some (width s p v))
+ref_size_same (Some s) true v = go (as_u32 s) (as_u32 (bytes_to_hold v)) (as_bytes_lem s) (held_same v)
   where
     go : (a h : ℕ) → a ≡ ref_size_bytes s → h ≡ held_bytes v → cond (ltb a h) none (some (a + 1)) ≡ cond (ltb (ref_size_bytes s) (held_bytes v)) none (some (ref_size_bytes s + 1))
     go a h e q = rw (e, q)
-ref_size_same (Sized s) false v = go (as_u32 s) (as_u32 (bytes_to_hold v)) (as_bytes_lem s) (held_same v)
+ref_size_same (Some s) false v = go (as_u32 s) (as_u32 (bytes_to_hold v)) (as_bytes_lem s) (held_same v)
   where
     go : (a h : ℕ) → a ≡ ref_size_bytes s → h ≡ held_bytes v → cond (ltb a h) none (some a) ≡ cond (ltb (ref_size_bytes s) (held_bytes v)) none (some (ref_size_bytes s + 0))
     go a h e q = rw (e, q, add-zero (ref_size_bytes s))
-ref_size_same Unsized true v = go (eqb v 0) (as_u32 (bytes_to_hold v)) (held_same v)
+ref_size_same None true v = go (eqb v 0) (as_u32 (bytes_to_hold v)) (held_same v)
   where
     go : (z : Bool) (h : ℕ) → h ≡ held_bytes v → cond z (some 1) (some (1 + h)) ≡ some (cond z 1 (held_bytes v + 1))
     go true h q = refl
     go false h q = ap some (ap (λ (n : ℕ). 1 + n) q ∙ add_comm 1 (held_bytes v))
-ref_size_same Unsized false v = ap some (held_same v)
+ref_size_same None false v = ap some (held_same v)
 
 -- ---- values
 

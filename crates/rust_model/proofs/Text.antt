@@ -1,4 +1,5 @@
 -- The Rust's text of numbers, bytes, marks, data and references is the listing's. Assumes nothing.
+use Rattle.std.specs.Prelude.{None, Option, Some}
 use Prim.Native.Nat.{ℕ, zero, suc, ◌+◌, ◌-◌, ◌/◌, ◌%◌, ◌≤◌}
 use native.Mathlib.Omega.{arith}
 use mathlib.Core.Path.{◌≡◌, refl, sym, ◌∙◌}
@@ -7,11 +8,10 @@ use mathlib.Core.List.{List, [], ◌∷◌, ◌++◌, append_assoc, append-nil}
 use lib.Dec.{ltb}
 use lib.ListN.{length}
 use borrow.Author.Tests.{ltb-false}
+use Rattle.units.specs.declared.Span.{Span}
+use Rattle.units.specs.declared.MarkId.{MarkId}
 use Rattle.units.specs.declared.RefSize.{RefSize}
 use Rattle.units.specs.declared.RefSize.TheVariants.{S1, S2, S3, S4}
-use Rattle.units.specs.declared.SetSize.{SetSize}
-use Rattle.units.specs.declared.SetSize.TheVariants.{Unsized, Sized}
-use Rattle.units.specs.declared.MarkSpan.{MarkSpan}
 use Rattle.units.specs.declared.MarkReference.{MarkReference}
 use Rattle.units.specs.declared.MarkReference.TheVariants.{Direct, Delta}
 use Rattle.units.specs.declared.AsmReference.{AsmReference}
@@ -88,7 +88,7 @@ unfolding as_bytes
 minus_mark = refl
 
 -- a delta
-delta_same : (d : MarkSpan) → rust.ref_str (Delta d) ≡ ours.delta_text d
+delta_same : (d : Span MarkId) → rust.ref_str (Delta d) ≡ ours.delta_text d
 unfolding ours.delta_text ours.mark_name
 delta_same d = rw (displayed_same d.end.0, displayed_same d.start.0, open_mark, minus_mark) (simp append_assoc)
 
@@ -102,9 +102,9 @@ ref_size_same S2 = refl
 ref_size_same S3 = refl
 ref_size_same S4 = refl
 
-size_same : (s : SetSize) → rust.size_str s ≡ ours.size_text s
-size_same Unsized = refl
-size_same (Sized s) = rw (displayed_same (as_u32 s), ref_size_same s)
+size_same : (s : Option RefSize) → rust.size_str s ≡ ours.size_text s
+size_same None = refl
+size_same (Some s) = rw (displayed_same (as_u32 s), ref_size_same s)
 
 pushed_same : (b : Bool) → rust.push_or_raw b ≡ ours.push_text b
 pushed_same true = refl

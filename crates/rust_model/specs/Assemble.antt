@@ -2,11 +2,9 @@
 -- each mark it gets room for it and is made as long as its capacity, which the vector and its allocator choose: that choice is a
 -- parameter. They always find the memory here, and a vector may have any length: the real one panics at a hint whose table passes half
 -- the address space. Assumes nothing else.
-use Rattle.std.specs.Prelude.{ℕ, zero, suc, ◌+◌, ◌-◌, ◌≤◌, Bool, true, false, cond, ◌&&◌, List, [], ◌∷◌, ◌++◌, reverse, ltb, eqb, length, replicate, take}
+use Rattle.std.specs.Prelude.{ℕ, zero, suc, ◌+◌, ◌-◌, ◌≤◌, Bool, true, false, cond, ◌&&◌, List, [], ◌∷◌, ◌++◌, reverse, ltb, eqb, length, replicate, take, Err, None, Ok, Some}
 use Rattle.std.proofs.Math.Option.{Option, none, some}
 use Rattle.units.specs.declared.RefSize.{RefSize}
-use Rattle.units.specs.declared.SetSize.{SetSize}
-use Rattle.units.specs.declared.SetSize.TheVariants.{Unsized, Sized}
 use Rattle.units.specs.declared.MarkReference.{MarkReference}
 use Rattle.units.specs.declared.MarkReference.TheVariants.{Direct, Delta}
 use Rattle.rust_model.specs.Run.{Run, done, panic, and_then, Build, add_u32, checked_sub, index, index_mut, range}
@@ -134,19 +132,19 @@ emit_value table (Delta span) =
     and_then (index table span.end.0) (λ end. and_then (index table span.start.0) (λ start. checked_sub end start))
 
 -- `mark_ref.set_size.unwrap_or(ref_size)`
-abbrev pub unwrap_or : SetSize → RefSize → RefSize
-unwrap_or Unsized held = held
-unwrap_or (Sized s) held = s
+abbrev pub unwrap_or : Option RefSize → RefSize → RefSize
+unwrap_or None held = held
+unwrap_or (Some s) held = s
 
 -- `value == 0 && mark_ref.set_size.is_none() && mark_ref.pushed`
-abbrev pub is_push0 : ℕ → SetSize → Bool → Bool
-is_push0 v Unsized pushed = eqb v 0 && pushed
-is_push0 v (Sized s) pushed = false
+abbrev pub is_push0 : ℕ → Option RefSize → Bool → Bool
+is_push0 v None pushed = eqb v 0 && pushed
+is_push0 v (Some s) pushed = false
 
 -- `set_size.is_none_or(|set_size| set_size >= ref_size)`, negated
-abbrev pub is_invalid : SetSize → RefSize → Bool
-is_invalid Unsized held = false
-is_invalid (Sized s) held = ltb (as_u32 s) (as_u32 held)
+abbrev pub is_invalid : Option RefSize → RefSize → Bool
+is_invalid None held = false
+is_invalid (Some s) held = ltb (as_u32 s) (as_u32 held)
 
 -- `if mark_ref.pushed { result.push(op::PUSH1 + ref_size as u8 - 1) }`
 abbrev pub emit_op : Bool → RefSize → List ℕ
@@ -158,7 +156,7 @@ unfoldable pub emit_bytes : Bool → RefSize → ℕ → List ℕ
 emit_bytes pushed size v = emit_op pushed size ++ reverse (take (as_u32 size) (le_bytes 4 v))
 
 -- what is appended for a reference of value v
-unfoldable pub emit_ref : SetSize → Bool → ℕ → Run (List ℕ)
+unfoldable pub emit_ref : Option RefSize → Bool → ℕ → Run (List ℕ)
 emit_ref size pushed v =
     cond (is_push0 v size pushed) (done (0x5f ∷ []))
     (cond (is_invalid size (bytes_to_hold v)) panic

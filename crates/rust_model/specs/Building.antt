@@ -1,11 +1,11 @@
 -- The Rust's `Assembler` and what each building call does to its bytes and its list of stored sections, written from lib.rs.
 -- Only the datatypes of calls and of references, and what number a word's bytes are, are our contracts' own. Assumes nothing.
-use Rattle.std.specs.Prelude.{ℕ, zero, suc, ◌+◌, ◌-◌, ◌/◌, ◌%◌, Bool, true, false, cond, ◌&&◌, List, [], ◌∷◌, ◌++◌, reverse, leb, eqb, length, take}
+use Rattle.std.specs.Prelude.{ℕ, zero, suc, ◌+◌, ◌-◌, ◌/◌, ◌%◌, Bool, true, false, cond, ◌&&◌, List, [], ◌∷◌, ◌++◌, reverse, leb, eqb, length, take, None, Option, Some}
+use Rattle.units.specs.declared.Span.{Span}
+use Rattle.units.specs.declared.RefSize.{RefSize}
+use Rattle.units.specs.declared.MarkId.{MarkId}
 use Rattle.units.specs.Numbers.{number}
 use Rattle.units.specs.declared.RefSize.TheVariants.{S1, S2, S3, S4}
-use Rattle.units.specs.declared.SetSize.{SetSize}
-use Rattle.units.specs.declared.SetSize.TheVariants.{Unsized, Sized}
-use Rattle.units.specs.declared.MarkSpan.{MarkSpan}
 use Rattle.units.specs.declared.MarkReference.{MarkReference}
 use Rattle.units.specs.declared.MarkReference.TheVariants.{Direct, Delta}
 use Rattle.calls.specs.Calls.{Push, push_mark, push_op_byte, push_swap, push_dup, push_exchange, push_data, push_reference}
@@ -22,17 +22,17 @@ pub data StoredAsmSection : Type 0 where
   Mark : ℕ → StoredAsmSection
   Ops : Span → StoredAsmSection
   Data : Span → StoredAsmSection
-  DirectMarkRef : ℕ → SetSize → Bool → StoredAsmSection
-  UnsizedPushedDeltaRef : MarkSpan → StoredAsmSection
-  Size1PushedDeltaRef : MarkSpan → StoredAsmSection
-  Size2PushedDeltaRef : MarkSpan → StoredAsmSection
-  Size3PushedDeltaRef : MarkSpan → StoredAsmSection
-  Size4PushedDeltaRef : MarkSpan → StoredAsmSection
-  UnsizedRawDeltaRef : MarkSpan → StoredAsmSection
-  Size1RawDeltaRef : MarkSpan → StoredAsmSection
-  Size2RawDeltaRef : MarkSpan → StoredAsmSection
-  Size3RawDeltaRef : MarkSpan → StoredAsmSection
-  Size4RawDeltaRef : MarkSpan → StoredAsmSection
+  DirectMarkRef : ℕ → Option RefSize → Bool → StoredAsmSection
+  UnsizedPushedDeltaRef : Span MarkId → StoredAsmSection
+  Size1PushedDeltaRef : Span MarkId → StoredAsmSection
+  Size2PushedDeltaRef : Span MarkId → StoredAsmSection
+  Size3PushedDeltaRef : Span MarkId → StoredAsmSection
+  Size4PushedDeltaRef : Span MarkId → StoredAsmSection
+  UnsizedRawDeltaRef : Span MarkId → StoredAsmSection
+  Size1RawDeltaRef : Span MarkId → StoredAsmSection
+  Size2RawDeltaRef : Span MarkId → StoredAsmSection
+  Size3RawDeltaRef : Span MarkId → StoredAsmSection
+  Size4RawDeltaRef : Span MarkId → StoredAsmSection
 
 -- `Assembler`
 pub record Assembler : Type 0 where
@@ -228,18 +228,18 @@ pushed_data build a added = data_after build (last_mut a.sections) a added
 -- ---- references
 
 -- the section that `push_reference` stores
-abbrev pub stored_ref : MarkReference → SetSize → Bool → StoredAsmSection
+abbrev pub stored_ref : MarkReference → Option RefSize → Bool → StoredAsmSection
 stored_ref (Direct id) size pushes = DirectMarkRef id.0 size pushes
-stored_ref (Delta span) Unsized true = UnsizedPushedDeltaRef span
-stored_ref (Delta span) (Sized S1) true = Size1PushedDeltaRef span
-stored_ref (Delta span) (Sized S2) true = Size2PushedDeltaRef span
-stored_ref (Delta span) (Sized S3) true = Size3PushedDeltaRef span
-stored_ref (Delta span) (Sized S4) true = Size4PushedDeltaRef span
-stored_ref (Delta span) Unsized false = UnsizedRawDeltaRef span
-stored_ref (Delta span) (Sized S1) false = Size1RawDeltaRef span
-stored_ref (Delta span) (Sized S2) false = Size2RawDeltaRef span
-stored_ref (Delta span) (Sized S3) false = Size3RawDeltaRef span
-stored_ref (Delta span) (Sized S4) false = Size4RawDeltaRef span
+stored_ref (Delta span) None true = UnsizedPushedDeltaRef span
+stored_ref (Delta span) (Some S1) true = Size1PushedDeltaRef span
+stored_ref (Delta span) (Some S2) true = Size2PushedDeltaRef span
+stored_ref (Delta span) (Some S3) true = Size3PushedDeltaRef span
+stored_ref (Delta span) (Some S4) true = Size4PushedDeltaRef span
+stored_ref (Delta span) None false = UnsizedRawDeltaRef span
+stored_ref (Delta span) (Some S1) false = Size1RawDeltaRef span
+stored_ref (Delta span) (Some S2) false = Size2RawDeltaRef span
+stored_ref (Delta span) (Some S3) false = Size3RawDeltaRef span
+stored_ref (Delta span) (Some S4) false = Size4RawDeltaRef span
 
 -- ---- any call, and lists of them
 

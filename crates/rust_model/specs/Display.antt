@@ -1,10 +1,9 @@
 -- The Rust's `write_asm`, written from display.rs and from `op::push_size` of op.rs. Only the 256 names, what bytes a text is, and
 -- the datatype of references are our contracts' own. Writing to a `String` doesn't fail. Assumes nothing.
-use Rattle.std.specs.Prelude.{ℕ, zero, suc, ◌+◌, ◌-◌, ◌/◌, ◌%◌, min, Bool, true, false, cond, ◌&&◌, List, [], ◌∷◌, ◌++◌, leb, ltb, length, get_or}
+use Rattle.std.specs.Prelude.{ℕ, zero, suc, ◌+◌, ◌-◌, ◌/◌, ◌%◌, min, Bool, true, false, cond, ◌&&◌, List, [], ◌∷◌, ◌++◌, leb, ltb, length, get_or, None, Some}
 use Rattle.std.proofs.Math.Option.{Option, none, some}
 use Rattle.std.proofs.Math.Seq.{slice}
-use Rattle.units.specs.declared.SetSize.{SetSize}
-use Rattle.units.specs.declared.SetSize.TheVariants.{Unsized, Sized}
+use Rattle.units.specs.declared.RefSize.{RefSize}
 use Rattle.units.specs.declared.MarkReference.{MarkReference}
 use Rattle.units.specs.declared.MarkReference.TheVariants.{Direct, Delta}
 use Rattle.units.specs.declared.AsmReference.{AsmReference}
@@ -72,9 +71,9 @@ ref_str (Direct id) = as_bytes ".mark" ++ displayed id.0
 ref_str (Delta span) = as_bytes "(.mark" ++ displayed span.end.0 ++ as_bytes " - .mark" ++ displayed span.start.0 ++ as_bytes ")"
 
 -- `size_str`
-abbrev pub size_str : SetSize → List ℕ
-size_str Unsized = []
-size_str (Sized s) = as_bytes ":" ++ displayed (as_u32 s)
+abbrev pub size_str : Option RefSize → List ℕ
+size_str None = []
+size_str (Some s) = as_bytes ":" ++ displayed (as_u32 s)
 
 -- `if asm_ref.pushed`
 abbrev pub push_or_raw : Bool → List ℕ

@@ -1,12 +1,11 @@
 -- The Rust's sections as they are read back, and their sizes, written from lib.rs: `AsmSection`, `min_compiled_size`, `compiled_size`,
 -- `bytes_to_hold`. Assumes nothing.
-use Rattle.std.specs.Prelude.{ℕ, ◌+◌, ◌-◌, Bool, true, false, cond, List, map, leb, ltb, eqb}
+use Rattle.std.specs.Prelude.{ℕ, ◌+◌, ◌-◌, Bool, true, false, cond, List, map, leb, ltb, eqb, None, Some}
 use Rattle.std.proofs.Math.Option.{Option, none, some}
+use Rattle.units.specs.declared.Span.{Span}
+use Rattle.units.specs.declared.MarkId.{MarkId}
 use Rattle.units.specs.declared.RefSize.{RefSize}
 use Rattle.units.specs.declared.RefSize.TheVariants.{S1, S2, S3, S4}
-use Rattle.units.specs.declared.SetSize.{SetSize}
-use Rattle.units.specs.declared.SetSize.TheVariants.{Unsized, Sized}
-use Rattle.units.specs.declared.MarkSpan.{MarkSpan}
 use Rattle.units.specs.declared.MarkReference.{MarkReference}
 use Rattle.units.specs.declared.MarkReference.TheVariants.{Direct, Delta}
 use Rattle.units.specs.declared.AsmReference.{AsmReference}
@@ -22,7 +21,7 @@ pub data AsmSection : Type 0 where
   MarkRef : AsmReference → AsmSection
 
 -- `AsmSection::delta_ref`
-abbrev pub delta_ref : MarkSpan → Bool → SetSize → AsmSection
+abbrev pub delta_ref : Span MarkId → Bool → Option RefSize → AsmSection
 delta_ref span pushed size = MarkRef (record { mark_ref = Delta span; set_size = size; pushed = pushed })
 
 -- `AsmSection::from`
@@ -32,16 +31,16 @@ from_stored (stored.Ops span) = Ops span
 from_stored (stored.Data span) = Data span
 from_stored (stored.DirectMarkRef id size pushed) =
     MarkRef (record { mark_ref = Direct (record { 0 = id }); set_size = size; pushed = pushed })
-from_stored (stored.UnsizedPushedDeltaRef span) = delta_ref span true Unsized
-from_stored (stored.Size1PushedDeltaRef span) = delta_ref span true (Sized S1)
-from_stored (stored.Size2PushedDeltaRef span) = delta_ref span true (Sized S2)
-from_stored (stored.Size3PushedDeltaRef span) = delta_ref span true (Sized S3)
-from_stored (stored.Size4PushedDeltaRef span) = delta_ref span true (Sized S4)
-from_stored (stored.UnsizedRawDeltaRef span) = delta_ref span false Unsized
-from_stored (stored.Size1RawDeltaRef span) = delta_ref span false (Sized S1)
-from_stored (stored.Size2RawDeltaRef span) = delta_ref span false (Sized S2)
-from_stored (stored.Size3RawDeltaRef span) = delta_ref span false (Sized S3)
-from_stored (stored.Size4RawDeltaRef span) = delta_ref span false (Sized S4)
+from_stored (stored.UnsizedPushedDeltaRef span) = delta_ref span true None
+from_stored (stored.Size1PushedDeltaRef span) = delta_ref span true (Some S1)
+from_stored (stored.Size2PushedDeltaRef span) = delta_ref span true (Some S2)
+from_stored (stored.Size3PushedDeltaRef span) = delta_ref span true (Some S3)
+from_stored (stored.Size4PushedDeltaRef span) = delta_ref span true (Some S4)
+from_stored (stored.UnsizedRawDeltaRef span) = delta_ref span false None
+from_stored (stored.Size1RawDeltaRef span) = delta_ref span false (Some S1)
+from_stored (stored.Size2RawDeltaRef span) = delta_ref span false (Some S2)
+from_stored (stored.Size3RawDeltaRef span) = delta_ref span false (Some S3)
+from_stored (stored.Size4RawDeltaRef span) = delta_ref span false (Some S4)
 
 -- `iter_sections`
 abbrev pub iter_sections : Assembler → List AsmSection
@@ -59,10 +58,10 @@ unfoldable pub bytes_to_hold : ℕ → RefSize
 bytes_to_hold v = cond (leb v 0xff) S1 (cond (leb v 0xffff) S2 (cond (leb v 0xffffff) S3 S4))
 
 -- `min_compiled_size` of a reference: `match (mark_ref.set_size, mark_ref.pushed)`
-abbrev pub min_ref_size : SetSize → Bool → ℕ
-min_ref_size (Sized s) true = as_u32 s + 1
-min_ref_size (Sized s) false = as_u32 s
-min_ref_size Unsized pushed = 1
+abbrev pub min_ref_size : Option RefSize → Bool → ℕ
+min_ref_size (Some s) true = as_u32 s + 1
+min_ref_size (Some s) false = as_u32 s
+min_ref_size None pushed = 1
 
 -- `min_compiled_size`
 abbrev pub min_compiled_size : Build → AsmSection → Run ℕ
@@ -82,11 +81,11 @@ walk_value markMap (Delta span) =
     and_then (index markMap span.end.0) (λ end. and_then (index markMap span.start.0) (λ start. done (saturating_sub end start)))
 
 -- `match (mark_ref.set_size, mark_ref.pushed)` of `compiled_size`; none is a set size that is too small
-abbrev pub ref_size_for : SetSize → Bool → ℕ → RefSize → Option ℕ
-ref_size_for (Sized s) true v held = cond (ltb (as_u32 s) (as_u32 held)) none (some (as_u32 s + 1))
-ref_size_for (Sized s) false v held = cond (ltb (as_u32 s) (as_u32 held)) none (some (as_u32 s))
-ref_size_for Unsized true v held = cond (eqb v 0) (some 1) (some (1 + as_u32 held))
-ref_size_for Unsized false v held = some (as_u32 held)
+abbrev pub ref_size_for : Option RefSize → Bool → ℕ → RefSize → Option ℕ
+ref_size_for (Some s) true v held = cond (ltb (as_u32 s) (as_u32 held)) none (some (as_u32 s + 1))
+ref_size_for (Some s) false v held = cond (ltb (as_u32 s) (as_u32 held)) none (some (as_u32 s))
+ref_size_for None true v held = cond (eqb v 0) (some 1) (some (1 + as_u32 held))
+ref_size_for None false v held = some (as_u32 held)
 
 -- `compiled_size`
 abbrev pub compiled_size : Build → List ℕ → AsmSection → Run (Option ℕ)

@@ -1,4 +1,5 @@
 -- The three words of a section of an undamaged store: what the walks read from them is what layout says of the section. Assumes nothing.
+use Rattle.std.specs.Prelude.{Option, Some}
 use Prim.Native.Nat.{ℕ, ◌-◌, ◌≤◌, ◌<◌}
 use native.Mathlib.Omega.{arith}
 use mathlib.Core.Path.{◌≡◌, refl, sym, ap, ◌∙◌}
@@ -9,16 +10,14 @@ use lib.Dec.{leb, ltb, eqb}
 use lib.ListN.{length}
 use lib.Seq.{length-slice}
 use borrow.Author.Tests.{leb-false, eq-eqb, ne_eqb, lt-ltb, le-ltb, le-leb, lt-leb}
+use Rattle.units.specs.declared.RefSize.{RefSize}
+use Rattle.records.specs.declared.record.AsmSection.{AsmSection}
 use Rattle.units.specs.Reference.{least_size, size_for}
 use Rattle.units.specs.Form.{form_number, least_by_form}
 use Rattle.units.proofs.Forms.{least_form, size_form}
-use Rattle.units.specs.declared.SetSize.{SetSize}
-use Rattle.units.specs.declared.SizeFor.{SizeFor}
-use Rattle.units.specs.declared.SizeFor.TheVariants.{Bytes}
 use Rattle.records.specs.Record.{mark_kind, ops_kind, data_kind, direct_kind, read_section, form_of}
 use Rattle.records.specs.Damage.{unreadable, is_span}
 use Rattle.records.specs.Sections.{Section, mark, ops, bytes, reference, section_read}
-use Rattle.records.specs.declared.record.SectionRead.{SectionRead}
 use Rattle.records.specs.declared.record.StoredSection.{StoredSection}
 use Rattle.undamaged.proofs.Reading.{direct, delta, Reads, is_damaged_lem, is_mark, is_ops_lem, is_data, is_direct, is_delta_lem, reads}
 use Rattle.undamaged.proofs.Forms.{form_read}
@@ -33,9 +32,9 @@ pub data Words (x : StoredSection) : Section → Type 0 where
   mark_words : x.kind ≡ mark_kind → Words x (mark x.first)
   ops_words : x.kind ≡ ops_kind → x.first ≤ x.second → (bs : List ℕ) → length bs ≡ x.second - x.first → Words x (ops bs)
   data_words : x.kind ≡ data_kind → x.first ≤ x.second → (bs : List ℕ) → length bs ≡ x.second - x.first → Words x (bytes bs)
-  direct_words : x.kind ≡ direct_kind → (s : SetSize) (p : Bool) → form_of x ≡ form_number (direct x.first s p)
+  direct_words : x.kind ≡ direct_kind → (s : Option RefSize) (p : Bool) → form_of x ≡ form_number (direct x.first s p)
       → Words x (reference (direct x.first s p))
-  delta_words : direct_kind < x.kind → (s : SetSize) (p : Bool) → form_of x ≡ form_number (delta x.first x.second s p)
+  delta_words : direct_kind < x.kind → (s : Option RefSize) (p : Bool) → form_of x ≡ form_number (delta x.first x.second s p)
       → Words x (reference (delta x.first x.second s p))
 
 -- words that can be read, and that end within the byte slice if they are of Ops or Data, are those of the section that is read
@@ -43,7 +42,7 @@ pub words_read : (held : List ℕ) (x : StoredSection) → unreadable (read_sect
     → Words x (section_read held (read_section x))
 words_read held x u h = go (reads x) refl u
   where
-    go : {v : SectionRead} → Reads x.kind x.first x.second v → read_section x ≡ v → unreadable v ≡ false → Words x (section_read held v)
+    go : {v : Option AsmSection} → Reads x.kind x.first x.second v → read_section x ≡ v → unreadable v ≡ false → Words x (section_read held v)
     go is_damaged_lem e n = absurd (true≢false n)
     go (is_mark f m) e n = mark_words f
     go (is_ops_lem f l) e n = ops_words f l _ (length-slice x.first x.second held (h (ap is_span f)))
@@ -52,10 +51,10 @@ words_read held x u h = go (reads x) refl u
     go (is_delta_lem l m o s p g) e n = delta_words l s p (form_read x _ e)
 
 -- the size of a section by offsets, or too narrow
-abbrev pub size_section : (ℕ → ℕ) → Section → SizeFor
-size_section offset (mark m) = Bytes 0
-size_section offset (ops bs) = Bytes (length bs)
-size_section offset (bytes bs) = Bytes (length bs)
+abbrev pub size_section : (ℕ → ℕ) → Section → Option ℕ
+size_section offset (mark m) = Some 0
+size_section offset (ops bs) = Some (length bs)
+size_section offset (bytes bs) = Some (length bs)
 size_section offset (reference r) = size_for r (value_by offset r.mark_ref)
 
 -- not a mark
@@ -162,8 +161,8 @@ module _ {x : StoredSection} where
   pub size_words_lem : (table : List ℕ) {s : Section} → Words x s → (x.kind ≡ mark_kind → ⊥) → size_words table x ≡ size_section (entry table) s
   unfolding size_words value_words
   size_words_lem table (mark_words f) n = absurd (n f)
-  size_words_lem table (ops_words f l bs d) n = rw f (ap Bytes (sym d))
-  size_words_lem table (data_words f l bs d) n = rw f (ap Bytes (sym d))
+  size_words_lem table (ops_words f l bs d) n = rw f (ap Some (sym d))
+  size_words_lem table (data_words f l bs d) n = rw f (ap Some (sym d))
   size_words_lem table (direct_words f s p g) n =
       rw (le-ltb x.kind direct_kind (omega arith), eq-eqb x.kind direct_kind f, g)
       (size_form (direct x.first s p) (entry table x.first))

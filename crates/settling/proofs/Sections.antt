@@ -1,5 +1,6 @@
 -- What the walks know of an undamaged store: its list of sections, section i by its words, and that no sum of sizes is large.
 -- Assumes nothing.
+use Rattle.std.specs.Prelude.{Some}
 use Prim.Native.Nat.{ℕ, zero, suc, ◌+◌, ◌*◌, ◌≤◌, ◌<◌}
 use native.Mathlib.Nat.{add-zero, zero-add, le_refl}
 use native.Mathlib.Numerals.{add-one}
@@ -14,7 +15,6 @@ use borrow.Author.Tests.{ne_eqb}
 use Rattle.units.specs.Reference.{least_size, size}
 use Rattle.units.proofs.Forms.{size_found}
 use Rattle.units.specs.declared.AsmReference.{AsmReference}
-use Rattle.units.specs.declared.SizeFor.TheVariants.{Bytes}
 use Rattle.records.specs.Record.{ops_kind, data_kind, direct_kind}
 use Rattle.records.specs.Store.{Store, store_of, words_per_section, words_at, section_words}
 use Rattle.records.specs.Damage.{is_span, end_before}
@@ -156,10 +156,10 @@ module _ (ss : List Section) (i : ℕ) (sum : ℕ) (l : i < length ss) (h : Room
       go (bytes bs) = omega arith
       go (reference r) = omega (arith, least_small r)
 
-  pub room_size : (offset : ℕ → ℕ) (n : ℕ) → size_section offset (section_at ss i) ≡ Bytes n → Room ss (i + 1) (sum + n)
+  pub room_size : (offset : ℕ → ℕ) (n : ℕ) → size_section offset (section_at ss i) ≡ Some n → Room ss (i + 1) (sum + n)
   room_size offset n e = room_next n (go (section_at ss i) e)
     where
-      go : (s : Section) → size_section offset s ≡ Bytes n → n ≤ stored_in s + 5
+      go : (s : Section) → size_section offset s ≡ Some n → n ≤ stored_in s + 5
       go (mark m) k = let z : n ≡ 0 = cc in omega arith
       go (ops bs) k = let z : n ≡ length bs = cc in omega arith
       go (bytes bs) k = let z : n ≡ length bs = cc in omega arith

@@ -11,7 +11,7 @@ use Rattle.units.specs.declared.reply.Refusal.{Refusal}
 use Rattle.records.specs.Store.{Store}
 use Rattle.records.specs.Damage.{whole_soundness}
 use Rattle.records.specs.Sections.{Section, decode}
-use Rattle.records.specs.declared.damage.Soundness.{Soundness}
+use Rattle.records.specs.Damage.{Soundness}
 use Rattle.layout.specs.Passes.{start, Settling, settled, narrow_at, unsettled, passes, settle}
 use Rattle.layout.specs.Conditions.{Missing, direct_mark, delta_start, delta_end, first_backward}
 use Rattle.layout.specs.Answer.{LayoutRefusal, unplaced, backward, Answer, no_layout, settling_answer, answer, Sound, Says}

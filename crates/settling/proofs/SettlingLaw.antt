@@ -9,8 +9,8 @@ use Rattle.units.specs.Reply.{Reply, accepted, refused}
 use Rattle.records.specs.Store.{Store}
 use Rattle.records.specs.Sections.{decode}
 use Rattle.records.specs.Damage.{whole_soundness}
-use Rattle.records.specs.declared.damage.Soundness.{Soundness}
-use Rattle.records.specs.declared.damage.Soundness.TheVariants as soundness
+use Rattle.records.specs.Damage.{Soundness}
+use Rattle.records.specs.Damage as soundness
 use Rattle.undamaged.specs.View.{Undamaged}
 use Rattle.undamaged.proofs.Soundness.{damaged_at_iff}
 use Rattle.layout.specs.Passes.{settled, narrow_at, settle}

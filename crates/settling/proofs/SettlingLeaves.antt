@@ -7,8 +7,8 @@ use Rattle.units.specs.Reply.{accepted, refused}
 use Rattle.records.specs.Store.{Store}
 use Rattle.records.specs.Damage.{whole_soundness}
 use Rattle.records.specs.Sections.{decode}
-use Rattle.records.specs.declared.damage.Soundness.{Soundness}
-use Rattle.records.specs.declared.damage.Soundness.TheVariants.{Sound, Damaged}
+use Rattle.records.specs.Damage.{Soundness}
+use Rattle.records.specs.Damage.{Sound, Damaged}
 use Rattle.layout.specs.Answer.{Laid, Answer, laid_out, no_layout, answer}
 use Rattle.layout.proofs.Places.{settled_still, settled_absent}
 use Rattle.settling.specs.Settle.{settlement, settling}

@@ -6,8 +6,8 @@ use Rattle.units.specs.Replies.{damaged}
 use Rattle.records.specs.Store.{Store}
 use Rattle.records.specs.Damage.{whole_soundness}
 use Rattle.records.specs.Sections.{decode}
-use Rattle.records.specs.declared.damage.Soundness.{Soundness}
-use Rattle.records.specs.declared.damage.Soundness.TheVariants.{Sound, Damaged}
+use Rattle.records.specs.Damage.{Soundness}
+use Rattle.records.specs.Damage.{Sound, Damaged}
 use Rattle.undamaged.proofs.Soundness.{undamaged_iff}
 use Rattle.layout.specs.Tight.{Decides}
 use Rattle.layout.proofs.Tight.{least_other, answer_least, answer_decides}

@@ -1,5 +1,6 @@
 -- One turn of each walk that changes the table: the table of first placings, the start table, and a pass; and what the passes come to.
 -- Each says that what remains equals the whole. Assumes nothing.
+use Rattle.std.specs.Prelude.{None, Some}
 use Prim.Native.Nat.{ℕ, suc, ◌+◌, ◌-◌, ◌≤◌, ◌<◌}
 use native.Mathlib.Numerals.{add-one}
 use native.Mathlib.Omega.{arith}
@@ -9,7 +10,6 @@ use mathlib.Core.List.{List, [], ◌∷◌}
 use lib.ListN.{length, set, drop, replicate, drop_of_length-le}
 use lib.Seq.{drop-cons}
 use Rattle.units.specs.Reference.{least_size}
-use Rattle.units.specs.declared.SizeFor.TheVariants.{Bytes, TooNarrow}
 use Rattle.units.proofs.Forms.{size_found, narrow_found}
 use Rattle.records.specs.Sections.{Section, mark, ops, bytes, reference}
 use Rattle.layout.specs.Passes.{entry, value_by, start_from, start, Walked, through, left_at, unlike, walk_from, pass}
@@ -38,7 +38,7 @@ start_other (bytes bs) ss sum table n = refl
 start_other (reference r) ss sum table n = refl
 
 module _ (ss : List Section) (i sum : ℕ) (moved : Bool) (table : List ℕ) where
-  walk_other : (s : Section) (n : ℕ) → NotMark s → size_section (entry table) s ≡ Bytes n → walk_from (s ∷ ss) i sum moved table ≡ walk_from ss (suc i) (sum + n) moved table
+  walk_other : (s : Section) (n : ℕ) → NotMark s → size_section (entry table) s ≡ Some n → walk_from (s ∷ ss) i sum moved table ≡ walk_from ss (suc i) (sum + n) moved table
   unfolding walk_from
   walk_other (mark m) n o e = absurd o
   walk_other (ops bs) n o e = let same : length bs ≡ n = cc in rw same
@@ -47,7 +47,7 @@ module _ (ss : List Section) (i sum : ℕ) (moved : Bool) (table : List ℕ) whe
       let found = size_found r (value_by (entry table) r.mark_ref) n e in
       rw (found.0, ← found.1)
 
-  walk_left : (s : Section) → NotMark s → size_section (entry table) s ≡ TooNarrow → walk_from (s ∷ ss) i sum moved table ≡ left_at i
+  walk_left : (s : Section) → NotMark s → size_section (entry table) s ≡ None → walk_from (s ∷ ss) i sum moved table ≡ left_at i
   unfolding walk_from
   walk_left (mark m) o e = absurd o
   walk_left (ops bs) o e = let z : ◌≡◌ {A = ℕ} 0 1 = cc in absurd (omega arith)
@@ -92,14 +92,14 @@ module _ (ss : List Section) (i : ℕ) (l : i < length ss) where
       ∙ walk_mark_lem m rest i sum moved table
       ∙ ap (λ (j : ℕ). walk_from rest j sum (moved || unlike table m sum) (set table m sum)) (sym (add-one i))
 
-  pub pass_past : (sum n : ℕ) (moved : Bool) (table : List ℕ) → NotMark (section_at ss i) → size_section (entry table) (section_at ss i) ≡ Bytes n
+  pub pass_past : (sum n : ℕ) (moved : Bool) (table : List ℕ) → NotMark (section_at ss i) → size_section (entry table) (section_at ss i) ≡ Some n
       → walk_from (drop i ss) i sum moved table ≡ walk_from rest (i + 1) (sum + n) moved table
   pass_past sum n moved table o e =
       ap (λ (x : List Section). walk_from x i sum moved table) left_cons
       ∙ walk_other rest i sum moved table (section_at ss i) n o e
       ∙ ap (λ (j : ℕ). walk_from rest j (sum + n) moved table) (sym (add-one i))
 
-  pub pass_left : (sum : ℕ) (moved : Bool) (table : List ℕ) → NotMark (section_at ss i) → size_section (entry table) (section_at ss i) ≡ TooNarrow
+  pub pass_left : (sum : ℕ) (moved : Bool) (table : List ℕ) → NotMark (section_at ss i) → size_section (entry table) (section_at ss i) ≡ None
       → walk_from (drop i ss) i sum moved table ≡ left_at i
   pass_left sum moved table o e =
       ap (λ (x : List Section). walk_from x i sum moved table) left_cons ∙ walk_left rest i sum moved table (section_at ss i) o e

@@ -1,11 +1,9 @@
 -- What the functions inside settling go by, and those of `tables` and of the writer of code: the store that they are lent, a section by its
 -- three words, the table of first placings, and the passes' reply. proofs/ has that each is what layout/specs says of the decoded sections.
 -- Assumes nothing.
-use Rattle.std.specs.Prelude.{ℕ, ◌+◌, ◌-◌, ◌≤◌, ◌<◌, ◌≡◌, Bool, false, cond, not, ◌&&◌, ◌||◌, List, [], ◌∷◌, leb, ltb, eqb, length, set, replicate}
+use Rattle.std.specs.Prelude.{ℕ, ◌+◌, ◌-◌, ◌≤◌, ◌<◌, ◌≡◌, Bool, false, cond, not, ◌&&◌, ◌||◌, List, [], ◌∷◌, leb, ltb, eqb, length, set, replicate, Option, Some}
 use Rattle.units.specs.Reference.{least_size}
 use Rattle.units.specs.Form.{least_by_form, size_by_form}
-use Rattle.units.specs.declared.SizeFor.{SizeFor}
-use Rattle.units.specs.declared.SizeFor.TheVariants.{Bytes}
 use Rattle.units.specs.declared.reply.Refusal.{Refusal}
 use Rattle.records.specs.Record.{mark_kind, data_kind, direct_kind, form_of}
 use Rattle.records.specs.Store.{store_of, words_per_section}
@@ -76,8 +74,8 @@ unfoldable pub least_words : StoredSection → ℕ
 least_words x = cond (ltb x.kind direct_kind) (x.second - x.first) (least_by_form (form_of x))
 
 -- its size by a table, or too narrow
-unfoldable pub size_words : List ℕ → StoredSection → SizeFor
-size_words table x = cond (ltb x.kind direct_kind) (Bytes (x.second - x.first)) (size_by_form (form_of x) (value_words table x))
+unfoldable pub size_words : List ℕ → StoredSection → Option ℕ
+size_words table x = cond (ltb x.kind direct_kind) (Some (x.second - x.first)) (size_by_form (form_of x) (value_words table x))
 
 -- ---- the table of first placings: 0 at the unplaced marks, else one more than the sum of least sizes before the first placing
 

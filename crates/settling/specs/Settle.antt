@@ -3,8 +3,8 @@
 use Rattle.std.specs.Prelude.{ℕ, List, replicate}
 use Rattle.units.specs.Replies.{damaged}
 use Rattle.units.specs.Reply.{Reply, accepted, refused, refusal_reply}
-use Rattle.records.specs.declared.damage.Soundness.{Soundness}
-use Rattle.records.specs.declared.damage.Soundness.TheVariants.{Sound, Damaged}
+use Rattle.records.specs.Damage.{Soundness}
+use Rattle.records.specs.Damage.{Sound, Damaged}
 use Rattle.records.specs.Store.{Store}
 use Rattle.records.specs.Damage.{whole_soundness}
 use Rattle.records.specs.Sections.{decode}

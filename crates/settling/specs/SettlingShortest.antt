@@ -7,7 +7,7 @@ use Rattle.units.specs.Reply.{Reply, accepted, refused}
 use Rattle.records.specs.Store.{Store}
 use Rattle.records.specs.Sections.{Section, decode}
 use Rattle.records.specs.Damage.{whole_soundness}
-use Rattle.records.specs.declared.damage.Soundness.TheVariants.{Sound}
+use Rattle.records.specs.Damage.{Sound}
 use Rattle.layout.specs.Layout.{in_all}
 use Rattle.layout.specs.Passes.{settled, narrow_at, settle}
 use Rattle.layout.specs.Conditions.{Never, short_at, unplaced_at, apart_at, delta_at, pass_bound}

@@ -6,7 +6,7 @@ use Rattle.units.specs.Reply.{Reply}
 use Rattle.records.specs.Store.{Store}
 use Rattle.records.specs.Damage.{whole_soundness}
 use Rattle.records.specs.Sections.{decode}
-use Rattle.records.specs.declared.damage.Soundness.TheVariants.{Sound}
+use Rattle.records.specs.Damage.{Sound}
 use Rattle.layout.specs.Conditions.{Never, delta_at}
 use Rattle.layout.specs.Shortest.{settled_layout}
 use Rattle.layout.specs.Answer.{Laid}

@@ -13,7 +13,7 @@ use Rattle.records.specs.Store.{Store, max_bytes, max_sections, section_words, w
 use Rattle.records.specs.Damage.{broken_last, last_broken, last_soundness}
 use Rattle.records.specs.Sections.{Section, ops}
 use Rattle.records.specs.declared.record.StoredSection.{StoredSection}
-use Rattle.records.specs.declared.damage.Soundness.TheVariants.{Sound}
+use Rattle.records.specs.Damage.{Sound}
 use Rattle.slices.specs.Over.{over}
 use Rattle.calls.specs.Calls.{BuiltReply, bytes_of, extends, bytes_pass, joins, no_section_left}
 use Rattle.calls.proofs.Rooms.{left_slice}

@@ -13,8 +13,8 @@ use Rattle.units.specs.Reply.{Reply, accepted, refused}
 use Rattle.records.specs.Store.{Store}
 use Rattle.records.specs.Damage.{whole_soundness}
 use Rattle.records.specs.Sections.{decode}
-use Rattle.records.specs.declared.damage.Soundness.{Soundness}
-use Rattle.records.specs.declared.damage.Soundness.TheVariants.{Sound, Damaged}
+use Rattle.records.specs.Damage.{Soundness}
+use Rattle.records.specs.Damage.{Sound, Damaged}
 use Rattle.listing.specs.Listing.{listing}
 use Rattle.listing.specs.Answer.{reply_for, listing_reply}
 

@@ -5,6 +5,7 @@ ghost use Rattle.std.specs.Prelude.{◌≡◌, ◌+◌, ◌≤◌, length};
 ghost use Rattle.slices.specs.Over.{over, over_if_room};
 
 // Copies bytes over others from an index on, if there is room for them; else nothing changes.
+#[tactic(auto, using(crate::proofs::Over::has_room, crate::proofs::Over::no_room))]
 pub fn write_bytes(bytes: &mut [u8], at: usize, added: &[u8])
     ensures { bytes.new ≡ over_if_room bytes.old at added.now }
 {
@@ -15,13 +16,12 @@ pub fn write_bytes(bytes: &mut [u8], at: usize, added: &[u8])
     }
 }
 
+#[tactic(auto, using(std::proofs::lemmas::List::Edits::paste_more))]
 fn copy_bytes(bytes: &mut [u8], at: usize, added: &[u8])
     requires { at + length added.now ≤ length bytes.old }
     ensures { bytes.new ≡ over bytes.old at added.now }
 {
-    let mut i = 0;
-    while i < added.len() {
+    for i in 0..added.len() {
         bytes[at + i] = added[i];
-        i += 1;
     }
 }

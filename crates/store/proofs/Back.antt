@@ -11,8 +11,8 @@ use Rattle.units.specs.Replies.{damaged}
 use Rattle.units.specs.Reply.{accepted, refused}
 use Rattle.slices.proofs.Tests.{cond_case}
 use Rattle.records.specs.declared.Assembler.{Assembler}
-use Rattle.records.specs.declared.damage.Soundness.{Soundness}
-use Rattle.records.specs.declared.damage.Soundness.TheVariants.{Sound, Damaged}
+use Rattle.records.specs.Damage.{Soundness}
+use Rattle.records.specs.Damage.{Sound, Damaged}
 use Rattle.records.specs.Store.{Store, store_of, words_per_section}
 use Rattle.records.specs.Damage.{last_soundness}
 use Rattle.records.specs.Sections.{Section}

@@ -16,8 +16,8 @@ use Rattle.units.specs.Reply.{Reply, accepted, refused}
 use Rattle.records.specs.Store.{Store}
 use Rattle.records.specs.Sections.{Section, mark, ops, bytes, reference, decode}
 use Rattle.records.specs.Damage.{whole_soundness}
-use Rattle.records.specs.declared.damage.Soundness.{Soundness}
-use Rattle.records.specs.declared.damage.Soundness.TheVariants as soundness
+use Rattle.records.specs.Damage.{Soundness}
+use Rattle.records.specs.Damage as soundness
 use Rattle.undamaged.specs.View.{Undamaged}
 use Rattle.undamaged.proofs.Soundness.{undamaged_iff, damaged_at_iff}
 use Rattle.layout.specs.Passes.{entry, size_by, unlike, settled}

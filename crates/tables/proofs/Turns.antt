@@ -1,5 +1,6 @@
 -- One turn of the walks over a store: where a section's marks are in the map, and what 7, 16 and 10 say of the section whose words were
 -- read. Assumes nothing.
+use Rattle.std.specs.Prelude.{None, Option, Some}
 use Prim.Native.Nat.{ℕ, ◌+◌, ◌*◌, ◌≤◌, ◌<◌}
 use native.Mathlib.Omega.{arith}
 use mathlib.Core.Path.{◌≡◌, refl, sym, ◌∙◌, ap, subst}
@@ -8,14 +9,13 @@ use mathlib.Core.List.{List}
 use mathlib.Core.Logic.{◌⊎◌, inl, inr}
 use lib.ListN.{length}
 use borrow.Author.Tests.{eq-eqb, ne_eqb}
-use Rattle.units.specs.declared.SizeFor.TheVariants.{Bytes, TooNarrow}
+use Rattle.records.specs.declared.record.AsmSection.{AsmSection}
 use Rattle.units.proofs.Forms.{size_found, narrow_found}
 use Rattle.records.specs.Record.{max_mark, read_section}
 use Rattle.records.specs.Damage.{unreadable}
 use Rattle.records.specs.Store.{store_of, words_per_section, words_at}
 use Rattle.records.specs.Sections.{Section, mark, ops, bytes, reference}
 use Rattle.records.specs.declared.Assembler.{Assembler}
-use Rattle.records.specs.declared.record.SectionRead.{SectionRead}
 use Rattle.records.specs.declared.record.StoredSection.{StoredSection}
 use Rattle.undamaged.proofs.Soundness.{undamaged_iff}
 use Rattle.undamaged.proofs.Reading.{Reads, is_damaged_lem, is_mark, is_ops_lem, is_data, is_direct, is_delta_lem, reads}
@@ -34,7 +34,7 @@ use Rattle.tables.specs.TableWalk.{stops_at}
 max_in : (x : StoredSection) → unreadable (read_section x) ≡ false → MarksIn 1048576 x
 max_in x u = go (reads x) u
   where
-    go : {v : SectionRead} → Reads x.kind x.first x.second v → unreadable v ≡ false → MarksIn 1048576 x
+    go : {v : Option AsmSection} → Reads x.kind x.first x.second v → unreadable v ≡ false → MarksIn 1048576 x
     go is_damaged_lem n = absurd (true≢false n)
     go (is_mark f m) n = record { placed = λ _. omega arith; first = λ h. absurd (omega arith); second = λ h. absurd (omega arith) }
     go (is_ops_lem f l) n = record { placed = λ h. absurd (omega arith); first = λ h. absurd (omega arith); second = λ h. absurd (omega arith) }
@@ -104,19 +104,19 @@ module _ (table : List ℕ) (ss : List Section) (i : ℕ) where
       go (bytes bs) o = refl
       go (reference r) o = refl
 
-  pub passes_other : (n : ℕ) → short_at (length table) ss i ≡ false → NotMark (section_at ss i) → size_section (entry table) (section_at ss i) ≡ Bytes n → stops_at table ss i ≡ false
+  pub passes_other : (n : ℕ) → short_at (length table) ss i ≡ false → NotMark (section_at ss i) → size_section (entry table) (section_at ss i) ≡ Some n → stops_at table ss i ≡ false
   passes_other n s o e = rw s (other_wrong o ∙ go (section_at ss i) e)
     where
-      go : (x : Section) → size_section (entry table) x ≡ Bytes n → narrow_by table x ≡ false
+      go : (x : Section) → size_section (entry table) x ≡ Some n → narrow_by table x ≡ false
       go (mark m) k = refl
       go (ops bs) k = refl
       go (bytes bs) k = refl
       go (reference r) k = (size_found r (value_by (entry table) r.mark_ref) n k).0
 
-  pub stops_other : short_at (length table) ss i ≡ false → NotMark (section_at ss i) → size_section (entry table) (section_at ss i) ≡ TooNarrow → stops_at table ss i ≡ true
+  pub stops_other : short_at (length table) ss i ≡ false → NotMark (section_at ss i) → size_section (entry table) (section_at ss i) ≡ None → stops_at table ss i ≡ true
   stops_other s o e = rw s (other_wrong o ∙ go (section_at ss i) e)
     where
-      go : (x : Section) → size_section (entry table) x ≡ TooNarrow → narrow_by table x ≡ true
+      go : (x : Section) → size_section (entry table) x ≡ None → narrow_by table x ≡ true
       go (mark m) k = let z : ◌≡◌ {A = ℕ} 0 1 = cc in absurd (omega arith)
       go (ops bs) k = let z : ◌≡◌ {A = ℕ} 0 1 = cc in absurd (omega arith)
       go (bytes bs) k = let z : ◌≡◌ {A = ℕ} 0 1 = cc in absurd (omega arith)
@@ -127,10 +127,10 @@ module _ (table : List ℕ) (ss : List Section) (i : ℕ) where
   pub sum_mark : (m : ℕ) → i < length ss → section_at ss i ≡ mark m → sum_before table ss i ≡ sum_before table ss (i + 1)
   sum_mark m l e = let z : size_by (entry table) (section_at ss i) ≡ 0 = ap (size_by (entry table)) e in omega (arith, sum_next (size_by (entry table)) ss i l)
 
-  pub sum_other : (n : ℕ) → i < length ss → size_section (entry table) (section_at ss i) ≡ Bytes n → sum_before table ss i + n ≡ sum_before table ss (i + 1)
+  pub sum_other : (n : ℕ) → i < length ss → size_section (entry table) (section_at ss i) ≡ Some n → sum_before table ss i + n ≡ sum_before table ss (i + 1)
   sum_other n l e = omega (arith, sum_next (size_by (entry table)) ss i l, go (section_at ss i) e)
     where
-      go : (x : Section) → size_section (entry table) x ≡ Bytes n → size_by (entry table) x ≡ n
+      go : (x : Section) → size_section (entry table) x ≡ Some n → size_by (entry table) x ≡ n
       go (mark m) k = let z : 0 ≡ n = cc in z
       go (ops bs) k = let z : length bs ≡ n = cc in z
       go (bytes bs) k = let z : length bs ≡ n = cc in z

@@ -9,8 +9,8 @@ use Rattle.units.specs.Reference as width
 use Rattle.records.specs.Store.{Store}
 use Rattle.records.specs.Sections.{Section, mark, ops, bytes, reference, decode}
 use Rattle.records.specs.Damage.{whole_soundness}
-use Rattle.records.specs.declared.damage.Soundness.{Soundness}
-use Rattle.records.specs.declared.damage.Soundness.TheVariants.{Sound, Damaged}
+use Rattle.records.specs.Damage.{Soundness}
+use Rattle.records.specs.Damage.{Sound, Damaged}
 use Rattle.layout.specs.Passes.{entry, value_by, size_by, unlike}
 use Rattle.layout.specs.Conditions.{section_at, first, places_some, sum_of, first_short, first_unplaced, first_apart, first_backward}
 use Rattle.layout.specs.Conditions.{Missing, missing_at}

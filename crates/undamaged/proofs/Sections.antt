@@ -1,4 +1,5 @@
 -- The list of sections of a store, the ends of its Ops and Data sections, and what is known of each section. Assumes nothing.
+use Rattle.std.specs.Prelude.{None, Option, Some}
 use Prim.Native.Nat.{ℕ, zero, suc, ◌+◌, ◌≤◌, ◌<◌}
 use native.Mathlib.Nat.{add-zero, add-suc, suc-add, le_refl, le_trans, le_of_eq, eq-or-lt_of_le}
 use native.Mathlib.Omega.{arith}
@@ -8,12 +9,11 @@ use mathlib.Mathlib.Data.Bool.Basic.{dichotomy}
 use mathlib.Core.List.{List, [], ◌∷◌, ◌++◌}
 use mathlib.Core.Logic.{◌⊎◌, inl, inr}
 use lib.ListN.{length}
+use Rattle.records.specs.declared.record.AsmSection.{AsmSection}
 use Rattle.records.specs.Record.{read_section}
 use Rattle.records.specs.Store.{Store, section_words}
 use Rattle.records.specs.Damage.{unreadable, is_span, end_before}
 use Rattle.records.specs.Sections.{Section, decode_at, decode_from}
-use Rattle.records.specs.declared.record.SectionRead.{SectionRead}
-use Rattle.records.specs.declared.record.SectionRead.TheVariants.{Read, Damaged}
 use Rattle.undamaged.specs.View.{Facts}
 use Rattle.undamaged.specs.Section.{ReadIn}
 use Rattle.slices.proofs.Tests.{cond_true, cond_false}
@@ -57,7 +57,7 @@ span_stored w st i f l s = omega (arith, span_within w st i st.sections f l (le_
 -- ---- one section
 
 -- words that can be read, and whose end is at most n if they are of Ops or Data
-pub read_in : {k a b : ℕ} {v : SectionRead} (n : ℕ) → Reads k a b v → unreadable v ≡ false → (is_span k ≡ true → b ≤ n) → ReadIn n v
+pub read_in : {k a b : ℕ} {v : Option AsmSection} (n : ℕ) → Reads k a b v → unreadable v ≡ false → (is_span k ≡ true → b ≤ n) → ReadIn n v
 read_in n is_damaged_lem u h = true≢false u
 read_in n (is_mark e m) u h = m
 read_in n (is_ops_lem e l) u h = (l, h (ap is_span e))
@@ -66,9 +66,9 @@ read_in n (is_direct e m s p f) u h = m
 read_in n (is_delta_lem l m m' s p f) u h = (m, m')
 
 -- and the other way: a section of n bytes can be read
-pub can_read : (n : ℕ) (v : SectionRead) → ReadIn n v → unreadable v ≡ false
-can_read n (Read s) h = refl
-can_read n Damaged h = absurd h
+pub can_read : (n : ℕ) (v : Option AsmSection) → ReadIn n v → unreadable v ≡ false
+can_read n (Some s) h = refl
+can_read n None h = absurd h
 
 -- so every section of an undamaged store is one of its stored bytes
 pub section_in : (w : ℕ) (st : Store) (i : ℕ) → Facts w st → i < st.sections → ReadIn st.stored_bytes (read_section (section_words w st i))

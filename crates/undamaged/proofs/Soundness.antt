@@ -12,8 +12,8 @@ use lib.Dec.{ltb, eqb}
 use borrow.Author.Tests.{ltb-true, ltb-false, leb-true, eqb-true, not-false, lt-ltb, le-ltb, le-leb, eq-eqb, ne_eqb}
 use Rattle.records.specs.Store.{Store, section_words, bad_counts}
 use Rattle.records.specs.Damage.{is_span, end_before, spans_end, breaks_rule, first_broken, bad_count, broken_reply, whole_soundness, last_broken, bad_count_building, last_soundness}
-use Rattle.records.specs.declared.damage.Soundness.{Soundness}
-use Rattle.records.specs.declared.damage.Soundness.TheVariants.{Sound, Damaged}
+use Rattle.records.specs.Damage.{Soundness}
+use Rattle.records.specs.Damage.{Sound, Damaged}
 use Rattle.undamaged.specs.View.{Undamaged, Facts, Within, Keeps, FirstBreak, DamagedAt, LastBreak}
 use Rattle.slices.specs.First.{IsLeast}
 use Rattle.undamaged.specs.View.{unsound}

@@ -1,8 +1,9 @@
 -- What is known of one section of an undamaged store: its span lies within the stored bytes, and its marks are at most the largest.
 -- The functions that read only undamaged stores ask for it. Assumes nothing.
-use Rattle.std.specs.Prelude.{ℕ, ◌%◌, ◌≤◌, cond, List, eqb, leb}
+use Rattle.std.specs.Prelude.{ℕ, ◌%◌, ◌≤◌, cond, List, eqb, leb, None, Option, Some}
 use Rattle.std.proofs.Math.Seq.{slice}
-use Rattle.units.specs.declared.BytesSpan.{BytesSpan}
+use Rattle.units.specs.declared.Span.{Span}
+use Rattle.units.specs.declared.AsmBytesIdx.{AsmBytesIdx}
 use Rattle.units.specs.declared.MarkReference.{MarkReference}
 use Rattle.units.specs.declared.MarkReference.TheVariants.{Direct, Delta}
 use Rattle.units.specs.declared.AsmReference.{AsmReference}
@@ -10,15 +11,13 @@ use Rattle.records.specs.Record.{max_mark, direct_kind, set_size_of, form_of}
 use Rattle.records.specs.declared.record.StoredSection.{StoredSection}
 use Rattle.records.specs.declared.record.AsmSection.{AsmSection}
 use Rattle.records.specs.declared.record.AsmSection.TheVariants.{Mark, Ops, Data, MarkRef}
-use Rattle.records.specs.declared.record.SectionRead.{SectionRead}
-use Rattle.records.specs.declared.record.SectionRead.TheVariants.{Read, Damaged}
 
 -- the bytes of a span
-abbrev pub span_bytes : List ℕ → BytesSpan → List ℕ
+abbrev pub span_bytes : List ℕ → Span AsmBytesIdx → List ℕ
 span_bytes bs s = slice s.start.0 s.end.0 bs
 
 -- a span of the first n bytes
-abbrev pub SpanIn : ℕ → BytesSpan → Type 0
+abbrev pub SpanIn : ℕ → Span AsmBytesIdx → Type 0
 SpanIn n s = (s.start.0 ≤ s.end.0) × (s.end.0 ≤ n)
 
 -- no mark number above the largest
@@ -44,6 +43,6 @@ SectionIn n (Data s) = SpanIn n s
 SectionIn n (MarkRef r) = SmallMarks r.mark_ref
 
 -- three words that are read as one
-abbrev pub ReadIn : ℕ → SectionRead → Type 0
-ReadIn n (Read s) = SectionIn n s
-ReadIn n Damaged = ⊥
+abbrev pub ReadIn : ℕ → Option AsmSection → Type 0
+ReadIn n (Some s) = SectionIn n s
+ReadIn n None = ⊥

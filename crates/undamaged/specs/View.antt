@@ -4,8 +4,8 @@ use Rattle.std.specs.Prelude.{◌≡◌, ℕ, suc, ◌*◌, ◌≤◌, ◌<◌, 
 use Rattle.records.specs.Record.{read_section}
 use Rattle.records.specs.Store.{Store, max_bytes, max_sections, section_words}
 use Rattle.records.specs.Damage.{unreadable, is_span, end_before, spans_end, bad_count, breaks_rule, whole_soundness, last_broken}
-use Rattle.records.specs.declared.damage.Soundness.{Soundness}
-use Rattle.records.specs.declared.damage.Soundness.TheVariants.{Sound, Damaged}
+use Rattle.records.specs.Damage.{Soundness}
+use Rattle.records.specs.Damage.{Sound, Damaged}
 
 -- the whole test finds nothing
 abbrev pub Undamaged : ℕ → Store → Type 0

@@ -1,2 +1,7 @@
-// Theorems on an undamaged store: the whole test as plain facts, and what its sections are read as. Both wings stand on it.
+// A store that the test for 6 has found undamaged, as a value: every walk of settling, of the tests of a table, of assembly and of the
+// listing takes one. Beside it theorems on such a store: the whole test as plain facts, and what its sections are read as.
 #![tactic(auto)]
+
+mod store;
+
+pub use store::UndamagedStore;

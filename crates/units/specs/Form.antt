@@ -1,18 +1,15 @@
 -- Document 01, module 2: a reference's form as one number, 'set size (0 unsized) plus 8 if pushed'; and the width rule by that number.
 -- What is said of every number is, of a reference's form, what Reference says: laws in proofs/Forms. Assumes nothing.
-use Rattle.std.specs.Prelude.{ℕ, ◌+◌, ◌%◌, ◌/◌, Bool, true, false, cond, ◌&&◌, eqb, ltb}
+use Rattle.std.specs.Prelude.{ℕ, ◌+◌, ◌%◌, ◌/◌, Bool, true, false, cond, ◌&&◌, eqb, ltb, None, Option, Some}
+use Rattle.units.specs.declared.RefSize.{RefSize}
 use Rattle.units.specs.Numbers.{held_bytes}
 use Rattle.units.specs.Reference.{ref_size_bytes}
-use Rattle.units.specs.declared.SetSize.{SetSize}
-use Rattle.units.specs.declared.SetSize.TheVariants.{Unsized, Sized}
 use Rattle.units.specs.declared.AsmReference.{AsmReference}
-use Rattle.units.specs.declared.SizeFor.{SizeFor}
-use Rattle.units.specs.declared.SizeFor.TheVariants.{Bytes, TooNarrow}
 
 -- a set size as a number, 0 if unsized
-abbrev pub size_number : SetSize → ℕ
-size_number Unsized = 0
-size_number (Sized s) = ref_size_bytes s
+abbrev pub size_number : Option RefSize → ℕ
+size_number None = 0
+size_number (Some s) = ref_size_bytes s
 
 -- plus 8 if pushed
 abbrev pub pushed_number : Bool → ℕ
@@ -36,8 +33,8 @@ unfoldable pub push_zero_by_form : ℕ → ℕ → Bool
 push_zero_by_form f v = eqb f 8 && eqb v 0
 
 -- the size for a value, or too narrow: unsized, then sized
-unfoldable pub size_by_form : ℕ → ℕ → SizeFor
+unfoldable pub size_by_form : ℕ → ℕ → Option ℕ
 size_by_form f v =
     cond (eqb (f % 8) 0)
-    (cond (eqb v 0) (Bytes 1) (Bytes (held_bytes v + f / 8)))
-    (cond (ltb (f % 8) (held_bytes v)) TooNarrow (Bytes (f % 8 + f / 8)))
+    (cond (eqb v 0) (Some 1) (Some (held_bytes v + f / 8)))
+    (cond (ltb (f % 8) (held_bytes v)) None (Some (f % 8 + f / 8)))

@@ -4,8 +4,6 @@ ghost use Rattle.std.specs.Prelude.{◌≡◌, ◌≤◌};
 ghost use Rattle.units.specs.Numbers.{held_bytes};
 ghost use Rattle.units.specs.Form.{least_by_form, count_by_form, push_zero_by_form, size_by_form};
 
-use crate::SizeFor;
-
 // The greatest set size: the forms of raw references are 0 to 4.
 pub const MAX_SIZE: u32 = 4;
 
@@ -16,6 +14,7 @@ pub const PUSHED: u32 = 8;
 pub const MAX: u32 = 12;
 
 // The least size.
+#[tactic(auto, unfolding(crate::specs::Form::least_by_form))]
 pub fn least_size(form: u32) -> u32
     ensures { result ≡ least_by_form form }
 {
@@ -38,6 +37,7 @@ fn held_bytes(value: u32) -> u32
 }
 
 // The bytes that a value is written in.
+#[tactic(auto, unfolding(crate::specs::Form::count_by_form))]
 pub fn byte_count(form: u32, value: u32) -> u32
     ensures { result ≡ count_by_form form value }
 {
@@ -49,29 +49,29 @@ pub fn byte_count(form: u32, value: u32) -> u32
 }
 
 // Whether a value is pushed as PUSH0.
+#[tactic(auto, unfolding(crate::specs::Form::push_zero_by_form))]
 pub fn is_push_zero(form: u32, value: u32) -> bool
     ensures { result ≡ push_zero_by_form form value }
 {
-    if form == PUSHED {
-        return value == 0;
-    }
-    false
+    form == PUSHED && value == 0
 }
 
-// The size for a value: the set size or the held bytes, and one byte more if pushed; PUSH0 for an unsized pushed 0.
-pub fn size_for(form: u32, value: u32) -> SizeFor
+// The size for a value: the set size or the held bytes, and one byte more if pushed; PUSH0 for an unsized pushed 0. None if the set size is
+// below the value's held bytes.
+#[tactic(auto, unfolding(crate::specs::Form::size_by_form))]
+pub fn size_for(form: u32, value: u32) -> Option<u32>
     ensures { result ≡ size_by_form form value }
 {
     let held = held_bytes(value);
     let size = form % PUSHED;
     if size == 0 {
         if value == 0 {
-            return SizeFor::Bytes(1);
+            return Some(1);
         }
-        return SizeFor::Bytes(held + form / PUSHED);
+        return Some(held + form / PUSHED);
     }
     if size < held {
-        return SizeFor::TooNarrow;
+        return None;
     }
-    SizeFor::Bytes(size + form / PUSHED)
+    Some(size + form / PUSHED)
 }

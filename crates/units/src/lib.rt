@@ -10,65 +10,45 @@ ghost use Rattle.units.specs.Numbers.{held_bytes};
 ghost use Rattle.units.specs.Reference.{ref_size_bytes, unsized_pushed, least_size, size_for};
 ghost use Rattle.units.specs.Form.{size_number, form_number};
 
-pub use reply::Refusal;
+pub use reply::{LaidOut, Refusal};
 
 // The number of a mark. A store takes 0 to 1,048,575.
-#[derive(Clone, Copy)]
+#[derive(Clone, Copy, Debug, PartialEq, Eq)]
 pub struct MarkId(pub u32);
 
 // A position in a store's bytes.
-#[derive(Clone, Copy)]
+#[derive(Clone, Copy, Debug, PartialEq, Eq)]
 pub struct AsmBytesIdx(pub u32);
 
-// The Rust's Span<AsmBytesIdx>: the bytes from start up to and without end.
-#[derive(Clone, Copy)]
-pub struct BytesSpan {
-    pub start: AsmBytesIdx,
-    pub end: AsmBytesIdx,
-}
-
-// The Rust's Span<MarkId>: the two marks of a delta.
-#[derive(Clone, Copy)]
-pub struct MarkSpan {
-    pub start: MarkId,
-    pub end: MarkId,
+// Of positions, the bytes from start up to and without end; of marks, the two marks of a delta.
+#[derive(Clone, Copy, Debug, PartialEq, Eq)]
+pub struct Span<T> {
+    pub start: T,
+    pub end: T,
 }
 
 // A number of bytes that a value is written in.
-#[derive(Clone, Copy)]
+#[derive(Clone, Copy, Debug, PartialEq, Eq)]
 pub enum RefSize {
-    S1,
-    S2,
-    S3,
-    S4,
-}
-
-// The Rust's Option<RefSize>.
-#[derive(Clone, Copy)]
-pub enum SetSize {
-    Unsized,
-    Sized(RefSize),
+    S1 = 1,
+    S2 = 2,
+    S3 = 3,
+    S4 = 4,
 }
 
 // What a reference's value is read from: one mark's offset, or the end mark's offset minus the start mark's.
-#[derive(Clone, Copy)]
+#[derive(Clone, Copy, Debug, PartialEq, Eq)]
 pub enum MarkReference {
     Direct(MarkId),
-    Delta(MarkSpan),
+    Delta(Span<MarkId>),
 }
 
-#[derive(Clone, Copy)]
+// A reference: what it refers to, its set size, none if unsized, and whether it is pushed.
+#[derive(Clone, Copy, Debug, PartialEq, Eq)]
 pub struct AsmReference {
     pub mark_ref: MarkReference,
-    pub set_size: SetSize,
+    pub set_size: Option<RefSize>,
     pub pushed: bool,
-}
-
-// A reference's size for a value, or that its set size is below the value's held bytes.
-#[derive(Clone, Copy)]
-pub enum SizeFor {
-    Bytes(u32),
-    TooNarrow,
 }
 
 // The least number of bytes that hold a value.
@@ -89,24 +69,17 @@ impl RefSize {
     pub fn bytes(self) -> u32
         ensures { (result ≡ ref_size_bytes self) × (result ≤ 4) }
     {
-        match self {
-            RefSize::S1 => 1,
-            RefSize::S2 => 2,
-            RefSize::S3 => 3,
-            RefSize::S4 => 4,
-        }
+        self as u32
     }
 }
 
-impl SetSize {
-    // The set size as a number, 0 if unsized.
-    pub fn number(self) -> u32
-        ensures { (result ≡ size_number self) × (result ≤ 4) }
-    {
-        match self {
-            SetSize::Unsized => 0,
-            SetSize::Sized(size) => size.bytes(),
-        }
+// A set size as a number, 0 if unsized.
+pub fn set_size_number(set_size: Option<RefSize>) -> u32
+    ensures { (result ≡ size_number set_size) × (result ≤ 4) }
+{
+    match set_size {
+        Some(size) => size.bytes(),
+        None => 0,
     }
 }
 
@@ -117,7 +90,7 @@ impl AsmReference {
     {
         Self {
             mark_ref: MarkReference::Direct(id),
-            set_size: SetSize::Unsized,
+            set_size: None,
             pushed: true,
         }
     }
@@ -127,8 +100,8 @@ impl AsmReference {
         ensures { result ≡ unsized_pushed (MarkReference.Delta (record { start = start; end = end })) }
     {
         Self {
-            mark_ref: MarkReference::Delta(MarkSpan { start, end }),
-            set_size: SetSize::Unsized,
+            mark_ref: MarkReference::Delta(Span { start, end }),
+            set_size: None,
             pushed: true,
         }
     }
@@ -139,7 +112,7 @@ impl AsmReference {
     {
         Self {
             mark_ref,
-            set_size: SetSize::Unsized,
+            set_size: None,
             pushed: true,
         }
     }
@@ -148,8 +121,7 @@ impl AsmReference {
     pub fn form(self) -> u32
         ensures { result ≡ form_number self }
     {
-        let set_size = self.set_size;
-        let size = set_size.number();
+        let size = set_size_number(self.set_size);
         if self.pushed {
             size + form::PUSHED
         } else {
@@ -158,14 +130,17 @@ impl AsmReference {
     }
 
     // The least size, which no value goes below.
+    #[tactic(auto, using(crate::proofs::Forms::least_form))]
     pub fn least_size(self) -> u32
         ensures { result ≡ least_size self }
     {
         form::least_size(self.form())
     }
 
-    // The size for a value: the set size or the held bytes, and one byte more if pushed; PUSH0 for an unsized pushed 0.
-    pub fn size_for(self, value: u32) -> SizeFor
+    // The size for a value: the set size or the held bytes, and one byte more if pushed; PUSH0 for an unsized pushed 0. None if the set
+    // size is below the value's held bytes.
+    #[tactic(auto, using(crate::proofs::Forms::size_form))]
+    pub fn size_for(self, value: u32) -> Option<u32>
         ensures { result ≡ size_for self value }
     {
         form::size_for(self.form(), value)

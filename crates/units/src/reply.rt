@@ -4,8 +4,18 @@
 ghost use Rattle.std.specs.Prelude.{◌≡◌};
 ghost use Rattle.units.specs.Replies.{refusal_numbers};
 
-// A section is its index; passes are those made.
-#[derive(Clone, Copy)]
+// The most passes that settling makes.
+const MAX_PASSES: u32 = 1024;
+
+// What settling, a write and assembly answer when they accept: the code's length in all, and the passes made.
+#[derive(Clone, Copy, Debug, PartialEq, Eq)]
+pub struct LaidOut {
+    pub length: u32,
+    pub passes: u32,
+}
+
+// Why a call refused. A section is its index; passes are those made.
+#[derive(Clone, Copy, Debug, PartialEq, Eq)]
 pub enum Refusal {
     BadDepth,
     BadWord,
@@ -31,80 +41,47 @@ impl Refusal {
     pub fn number(self) -> u32
         ensures { result ≡ (refusal_numbers self).number }
     {
-        match self {
-            Refusal::BadDepth => 1,
-            Refusal::BadWord => 2,
-            Refusal::LargeMark => 3,
-            Refusal::BytesFull => 4,
-            Refusal::SectionsFull => 5,
-            Refusal::Damaged { section: _ } => 6,
-            Refusal::ShortTable { section: _ } => 7,
-            Refusal::Unplaced { section: _ } => 8,
-            Refusal::PlacedApart { section: _ } => 9,
-            Refusal::TooNarrow {
-                section: _,
-                passes: _,
-            } => 10,
-            Refusal::Unsettled => 11,
-            Refusal::Backward {
-                section: _,
-                passes: _,
-            } => 12,
-            Refusal::ResultFull { passes: _ } => 13,
-            Refusal::ListingFull => 14,
-            Refusal::EntryDiffers { section: _ } => 16,
-            Refusal::StartUnplaced { section: _ } => 17,
-            Refusal::EndUnplaced { section: _ } => 18,
-        }
+        self.numbers().0
     }
 
     // The first section concerned.
     pub fn section(self) -> u32
         ensures { result ≡ (refusal_numbers self).section }
     {
-        match self {
-            Refusal::BadDepth => 0,
-            Refusal::BadWord => 0,
-            Refusal::LargeMark => 0,
-            Refusal::BytesFull => 0,
-            Refusal::SectionsFull => 0,
-            Refusal::Damaged { section } => section,
-            Refusal::ShortTable { section } => section,
-            Refusal::Unplaced { section } => section,
-            Refusal::PlacedApart { section } => section,
-            Refusal::TooNarrow { section, passes: _ } => section,
-            Refusal::Unsettled => 0,
-            Refusal::Backward { section, passes: _ } => section,
-            Refusal::ResultFull { passes: _ } => 0,
-            Refusal::ListingFull => 0,
-            Refusal::EntryDiffers { section } => section,
-            Refusal::StartUnplaced { section } => section,
-            Refusal::EndUnplaced { section } => section,
-        }
+        self.numbers().1
     }
 
     // The passes made.
     pub fn passes(self) -> u32
         ensures { result ≡ (refusal_numbers self).passes }
     {
+        self.numbers().2
+    }
+
+    // Number, section and passes.
+    fn numbers(self) -> (u32, u32, u32)
+        ensures number { result.0 ≡ (refusal_numbers self).number }
+        ensures section { result.1 ≡ (refusal_numbers self).section }
+        ensures passes { result.2 ≡ (refusal_numbers self).passes }
+    {
         match self {
-            Refusal::BadDepth => 0,
-            Refusal::BadWord => 0,
-            Refusal::LargeMark => 0,
-            Refusal::BytesFull => 0,
-            Refusal::SectionsFull => 0,
-            Refusal::Damaged { section: _ } => 0,
-            Refusal::ShortTable { section: _ } => 0,
-            Refusal::Unplaced { section: _ } => 0,
-            Refusal::PlacedApart { section: _ } => 0,
-            Refusal::TooNarrow { section: _, passes } => passes,
-            Refusal::Unsettled => 1024,
-            Refusal::Backward { section: _, passes } => passes,
-            Refusal::ResultFull { passes } => passes,
-            Refusal::ListingFull => 0,
-            Refusal::EntryDiffers { section: _ } => 0,
-            Refusal::StartUnplaced { section: _ } => 0,
-            Refusal::EndUnplaced { section: _ } => 0,
+            Refusal::BadDepth => (1, 0, 0),
+            Refusal::BadWord => (2, 0, 0),
+            Refusal::LargeMark => (3, 0, 0),
+            Refusal::BytesFull => (4, 0, 0),
+            Refusal::SectionsFull => (5, 0, 0),
+            Refusal::Damaged { section } => (6, section, 0),
+            Refusal::ShortTable { section } => (7, section, 0),
+            Refusal::Unplaced { section } => (8, section, 0),
+            Refusal::PlacedApart { section } => (9, section, 0),
+            Refusal::TooNarrow { section, passes } => (10, section, passes),
+            Refusal::Unsettled => (11, 0, MAX_PASSES),
+            Refusal::Backward { section, passes } => (12, section, passes),
+            Refusal::ResultFull { passes } => (13, 0, passes),
+            Refusal::ListingFull => (14, 0, 0),
+            Refusal::EntryDiffers { section } => (16, section, 0),
+            Refusal::StartUnplaced { section } => (17, section, 0),
+            Refusal::EndUnplaced { section } => (18, section, 0),
         }
     }
 }

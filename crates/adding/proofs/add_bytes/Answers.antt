@@ -11,7 +11,7 @@ use Rattle.records.specs.Record.{stored_section}
 use Rattle.slices.specs.Over.{over}
 use Rattle.slices.proofs.Over.{has_room}
 use Rattle.records.specs.declared.Assembler.{Assembler}
-use Rattle.records.specs.declared.damage.Soundness.TheVariants.{Sound}
+use Rattle.records.specs.Damage.{Sound}
 use Rattle.records.specs.Store.{Store, store_of, words_per_section, max_bytes, record_words}
 use Rattle.records.specs.Sections.{Section}
 use Rattle.records.specs.Damage.{last_soundness}

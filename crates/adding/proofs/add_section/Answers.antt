@@ -9,7 +9,7 @@ use Rattle.records.specs.Record.{stored_section}
 use Rattle.records.proofs.Writing.{record_room}
 use Rattle.records.specs.declared.Assembler.{Assembler}
 use Rattle.records.specs.declared.record.StoredSection.{StoredSection}
-use Rattle.records.specs.declared.damage.Soundness.TheVariants.{Sound}
+use Rattle.records.specs.Damage.{Sound}
 use Rattle.records.specs.Store.{Store, store_of, words_per_section}
 use Rattle.records.specs.Damage.{last_soundness}
 use Rattle.calls.specs.Calls.{BuiltReply, no_section_left}

@@ -3,8 +3,8 @@
 use Rattle.evm.proofs.Opcodes.{length_from}
 use Rattle.evm.proofs.op.instruction_length.Goals as goal
 
-pub returns-in-NoPush : goal.returns-in-NoPush
-returns-in-NoPush c = length_from _ _ _ c.push_size-size.ensures c.in-NoPush.is
+pub returns-in-Some : goal.returns-in-Some
+returns-in-Some c = rw c.from.ensures (length_from _ _ _ c.push_size.ensures c.in-Some.is)
 
-pub returns-in-Bytes : goal.returns-in-Bytes
-returns-in-Bytes c = length_from _ _ _ c.push_size-size.ensures c.in-Bytes.is
+pub returns-in-None : goal.returns-in-None
+returns-in-None c = length_from _ _ _ c.push_size.ensures c.in-None.is

@@ -6,15 +6,14 @@ use native.Mathlib.Omega.{arith}
 use mathlib.Core.Path.{◌≡◌, sym, ap, ◌∙◌}
 use mathlib.Core.Bool.{Bool, true, false}
 use Rattle.records.specs.Damage.{broken_last, last_soundness}
-use Rattle.records.specs.Held.{held_by, held_read, ends_elsewhere}
+use Rattle.records.specs.Held.{Held, held_by, held_read, ends_elsewhere}
 use Rattle.records.specs.Store.{Store, store_of, section_words, words_per_section}
 use Rattle.records.specs.declared.record.StoredSection.{StoredSection}
-use Rattle.records.specs.declared.damage.Held.{Held}
-use Rattle.records.specs.declared.damage.Soundness.TheVariants.{Sound, Damaged}
+use Rattle.records.specs.Damage.{Sound, Damaged}
 use Rattle.records.proofs.Damages.{good_words, last_counts, last_unheld, last_none, last_damaged, last_sound}
 use Rattle.records.proofs.Helds.{damaged_last, held_last}
 use Rattle.records.proofs.damage.check_last.Goals as goal
-use Rattle.records.proofs.damage.check_last.Goals.{After-bytes_unheld, After-counts_are_bad, After-ends_elsewhere, After-read_section-read, After-section_words, Else-counts_are_bad, Else-sections-eq0, In-Read}
+use Rattle.records.proofs.damage.check_last.Goals.{After-bytes_unheld, After-counts_are_bad, After-ends_elsewhere, After-read_section, After-section_words, Else-counts_are_bad, Else-sections-eq0, In-Some}
 
 abbrev store_at : goal.After-counts_are_bad → Store
 store_at c =
@@ -44,20 +43,20 @@ of_words : (c : goal.After-section_words) → last-broken (counted (goal.at.Afte
 of_words c = ap (λ (r : StoredSection). broken_last r (store_at (counted (goal.at.After-section_words c).Else-sections-eq0)).stored_bytes) (sym c.section_words.ensures)
 
 -- where it was read, seen from where it was found to be readable
-abbrev reading : goal.In-Read → goal.After-read_section-read
-reading c = (goal.at.In-Read c).After-read_section-read
+abbrev reading : goal.In-Some → goal.After-read_section
+reading c = (goal.at.In-Some c).After-read_section
 
 -- what the code tests of it then
-of-held : (c : goal.In-Read) → last-broken (counted (goal.at.After-read_section-read (reading c)).Else-sections-eq0) ≡ ends_elsewhere (held_by c.in-Read.section) (store_at (counted (goal.at.After-read_section-read (reading c)).Else-sections-eq0)).stored_bytes
+of-held : (c : goal.In-Some) → last-broken (counted (goal.at.After-read_section (reading c)).Else-sections-eq0) ≡ ends_elsewhere (held_by c.in-Some.section) (store_at (counted (goal.at.After-read_section (reading c)).Else-sections-eq0)).stored_bytes
 of-held c =
-    let words = (goal.at.After-read_section-read (reading c)).After-section_words in
+    let words = (goal.at.After-read_section (reading c)).After-section_words in
     of_words words
-    ∙ held_last words.section_words.result (held_by c.in-Read.section) (ap held_read (sym c.in-Read.is ∙ (reading c).read_section-read.ensures)) _
+    ∙ held_last words.section_words.result (held_by c.in-Some.section) (ap held_read (sym c.in-Some.is ∙ (reading c).read_section.ensures)) _
 
 -- and it was tested so
-of_test : (c : goal.After-ends_elsewhere) → ends_elsewhere (held_by c.in-Read.section) (store_at (counted (goal.at.After-read_section-read (reading (goal.at.After-ends_elsewhere c).In-Read)).Else-sections-eq0)).stored_bytes ≡ c.ends_elsewhere.result
+of_test : (c : goal.After-ends_elsewhere) → ends_elsewhere (held_by c.in-Some.section) (store_at (counted (goal.at.After-read_section (reading (goal.at.After-ends_elsewhere c).In-Some)).Else-sections-eq0)).stored_bytes ≡ c.ends_elsewhere.result
 of_test c =
-    let stored = (store_at (counted (goal.at.After-read_section-read (reading (goal.at.After-ends_elsewhere c).In-Read)).Else-sections-eq0)).stored_bytes in
+    let stored = (store_at (counted (goal.at.After-read_section (reading (goal.at.After-ends_elsewhere c).In-Some)).Else-sections-eq0)).stored_bytes in
     sym (c.ends_elsewhere.ensures ∙ ap (λ (h : Held). ends_elsewhere h stored) c.held_by.ensures)
 
 pub returns-then-counts_are_bad : goal.returns-then-counts_are_bad
@@ -84,18 +83,18 @@ section_words-requires c =
 
 pub returns-in_default : goal.returns-in_default
 returns-in_default c =
-    let read = (goal.at.returns-in_default c).After-read_section-read in
-    let words = (goal.at.After-read_section-read read).After-section_words in
-    is_damaged_lem (goal.at.After-section_words words).Else-sections-eq0 (of_words words ∙ damaged_last words.section_words.result _ (ap held_read (sym c.in_default.is ∙ read.read_section-read.ensures)))
+    let read = (goal.at.returns-in_default c).After-read_section in
+    let words = (goal.at.After-read_section read).After-section_words in
+    is_damaged_lem (goal.at.After-section_words words).Else-sections-eq0 (of_words words ∙ damaged_last words.section_words.result _ (ap held_read (sym c.in_default.is ∙ read.read_section.ensures)))
 
 pub returns-then-ends_elsewhere : goal.returns-then-ends_elsewhere
 returns-then-ends_elsewhere c =
     let tested = (goal.at.returns-then-ends_elsewhere c).After-ends_elsewhere in
-    let was = (goal.at.After-ends_elsewhere tested).In-Read in
-    is_damaged_lem (goal.at.After-read_section-read (reading was)).Else-sections-eq0 (of-held was ∙ of_test tested ∙ c.if-ends_elsewhere.true)
+    let was = (goal.at.After-ends_elsewhere tested).In-Some in
+    is_damaged_lem (goal.at.After-read_section (reading was)).Else-sections-eq0 (of-held was ∙ of_test tested ∙ c.if-ends_elsewhere.true)
 
 pub returns-else-ends_elsewhere : goal.returns-else-ends_elsewhere
 returns-else-ends_elsewhere c =
     let tested = (goal.at.returns-else-ends_elsewhere c).After-ends_elsewhere in
-    let was = (goal.at.After-ends_elsewhere tested).In-Read in
-    is-sound (goal.at.After-read_section-read (reading was)).Else-sections-eq0 (of-held was ∙ of_test tested ∙ c.if-ends_elsewhere.false)
+    let was = (goal.at.After-ends_elsewhere tested).In-Some in
+    is-sound (goal.at.After-read_section (reading was)).Else-sections-eq0 (of-held was ∙ of_test tested ∙ c.if-ends_elsewhere.false)

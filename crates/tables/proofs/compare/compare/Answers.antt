@@ -1,5 +1,6 @@
 -- The invariant: no section before i is a 7, a 16 or a 10; the sum is that of the sizes before i, and in bounds; the map has the marks placed
 -- before i; the first backward delta so far. The measure is what is left. Assumes nothing.
+use Rattle.std.specs.Prelude.{Some}
 use Prim.Native.Nat.{ℕ, ◌+◌, ◌*◌, ◌≤◌, ◌<◌}
 use native.Mathlib.Omega.{arith}
 use mathlib.Core.Path.{◌≡◌, refl, sym, ap, ◌∙◌, subst}
@@ -7,7 +8,6 @@ use mathlib.Core.Bool.{true, false}
 use mathlib.Core.List.{List}
 use lib.ListN.{length, take}
 use lib.Seq.{take_all}
-use Rattle.units.specs.declared.SizeFor.TheVariants.{Bytes}
 use Rattle.records.specs.Store.{store_of, words_per_section}
 use Rattle.records.specs.Sections.{Section}
 use Rattle.slices.specs.First.{least_from}
@@ -201,7 +201,7 @@ loop-i-preserved c =
       | else-section-eq-MARK+in-Bytes w ↦
           let other = not_mark t.words w.if-section-eq-MARK.false in
           let n : ℕ = w.in-Bytes.n in
-          let size : size_section (entryIn table) (section_at ss i) ≡ Bytes n = sym (size_words_lem table t.words w.if-section-eq-MARK.false) ∙ sym w.size_of.ensures ∙ w.in-Bytes.is in (
+          let size : size_section (entryIn table) (section_at ss i) ≡ Some n = sym (size_words_lem table t.words w.if-section-eq-MARK.false) ∙ sym w.size_of.ensures ∙ w.in-Bytes.is in (
             omega arith,
             omega (arith, w.sum-is, room_size ss i sum t.below inv.1 (entryIn table) n size),
             ap length w.map-is ∙ inv.2,
