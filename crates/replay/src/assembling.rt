@@ -1,9 +1,9 @@
 // The steps that assemble the store into the result, settle its offsets, and write its code by the table as it is. Each slice is lent by
 // `&mut *`, also where the call only reads it: the borrow checker covers no `&` of a field here beside a loan of another.
-use crate::answers::{LaidOut, assembled, settled};
 use crate::machine::Machine;
 use crate::stop::Stop;
 use std::io::Print;
+use units::LaidOut;
 
 impl<'a> Machine<'a> {
     // The code, written into the result from the position on.
@@ -16,7 +16,7 @@ impl<'a> Machine<'a> {
             &mut *self.result,
             position,
         );
-        self.say_laid_out(assembled(answer)?)
+        self.say_laid_out(answer?)
     }
 
     // The code by the table as it is, written into the result from the position on.
@@ -29,7 +29,7 @@ impl<'a> Machine<'a> {
             &mut *self.result,
             position,
         );
-        self.say_laid_out(assembled(answer)?)
+        self.say_laid_out(answer?)
     }
 
     // The offsets, into the table.
@@ -40,7 +40,7 @@ impl<'a> Machine<'a> {
             &mut *self.words,
             &mut *self.table,
         );
-        self.say_laid_out(settled(answer)?)
+        self.say_laid_out(answer?)
     }
 
     fn say_laid_out(&self, laid_out: LaidOut) -> Result<(), Stop> {

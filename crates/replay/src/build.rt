@@ -1,5 +1,4 @@
 // The steps that make a building call.
-use crate::answers::built;
 use crate::machine::Machine;
 use crate::memory::part_of;
 use crate::step::Call;
@@ -43,6 +42,6 @@ impl<'a> Machine<'a> {
             Call::MinimalU32(value) => push_minimal_u32(store, bytes, words, value),
             Call::Clear => return Ok(store.clear()),
         };
-        Ok(built(answer)?)
+        Ok(answer?)
     }
 }

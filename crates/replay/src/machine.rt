@@ -1,7 +1,7 @@
 // What a script works on, and what each step does to it and prints.
 use crate::memory::{UNWRITTEN_BYTE, UNWRITTEN_WORD, set, show};
 use crate::step::{STEP_BYTES, Step};
-use crate::stop::{Refused, Stop};
+use crate::stop::Stop;
 use records::Assembler;
 use std::io;
 use std::io::{Print, Stdout};
@@ -24,9 +24,8 @@ impl<'a> Machine<'a> {
     pub(crate) fn take(&mut self, step: [u8; STEP_BYTES]) -> io::Result<()> {
         match self.try_take(step) {
             Ok(()) => Ok(()),
-            Err(Stop::BadStep) => println!(self.out; "bad step"),
-            Err(Stop::Refused(refusal)) => println!(self.out; "{}", Refused(refusal)),
             Err(Stop::Output(error)) => Err(error),
+            Err(stop) => println!(self.out; "{stop}"),
         }
     }
 

@@ -2,7 +2,6 @@
 // docs/REPLAY.md has the format. Every function is proved safe; no contract says what is printed.
 #![tactic(auto)]
 
-mod answers;
 mod assembling;
 mod build;
 mod machine;

@@ -1,6 +1,5 @@
 // The steps that read a store, code or the pool and leave them as they are: the listing, whether a jump may land, the scan for the first
 // nonzero byte, and a job.
-use crate::answers::listed;
 use crate::machine::Machine;
 use crate::memory::part_of;
 use crate::step::BadStep;
@@ -14,13 +13,12 @@ use std::ops::Range;
 impl<'a> Machine<'a> {
     // The listing, to the start of the text.
     pub(crate) fn list(&mut self) -> Result<(), Stop> {
-        let answer = listing::write_asm(
+        let length = listing::write_asm(
             self.store,
             &mut *self.bytes,
             &mut *self.words,
             &mut *self.text,
-        );
-        let length = listed(answer)?;
+        )?;
         println!(self.out; "listing {length}")?;
         Ok(())
     }

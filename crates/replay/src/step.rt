@@ -1,10 +1,10 @@
 // A step: a call and its arguments, made of nine bytes, a kind and two numbers (docs/REPLAY.md). A part, an index or a length is as the
 // script gives it; whether the slice has it shows when the step is taken.
-use numbers::{Form, form_of};
+use numbers::form_of;
 use records::Assembler;
 use std::num::TryFromIntError;
 use std::ops::Range;
-use units::{AsmReference, MarkId, MarkReference, MarkSpan};
+use units::{AsmReference, MarkId, MarkReference, Span};
 
 pub(crate) const STEP_BYTES: usize = 9;
 
@@ -123,7 +123,7 @@ impl Call {
 
     // A delta from mark a to mark b.
     fn delta(a: u32, b: u32, form: u8) -> Result<Self, BadStep> {
-        let span = MarkSpan {
+        let span = Span {
             start: MarkId(a),
             end: MarkId(b),
         };
@@ -133,12 +133,10 @@ impl Call {
 
 // A reference in a form that is listed.
 fn formed(mark_ref: MarkReference, form: u32) -> Result<AsmReference, BadStep> {
-    let Form::Names(set_size, pushed) = form_of(form) else {
-        return Err(BadStep);
-    };
+    let form = form_of(form).ok_or(BadStep)?;
     Ok(AsmReference {
         mark_ref,
-        set_size,
-        pushed,
+        set_size: form.set_size,
+        pushed: form.pushed,
     })
 }

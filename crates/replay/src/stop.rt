@@ -1,4 +1,4 @@
-// Why a step didn't do what it says: it is bad, its call was refused, or its line couldn't be written.
+// Why a step didn't print its own line: it is bad, its call was refused, or a write failed.
 use crate::step::BadStep;
 use std::{fmt, io};
 use units::Refusal;
@@ -28,19 +28,19 @@ impl From<io::Error> for Stop {
     }
 }
 
-// A refusal as it is printed.
-#[derive(Clone, Copy)]
-pub(crate) struct Refused(pub(crate) Refusal);
-
-impl fmt::Display for Refused {
+// The line of a step that did nothing.
+impl fmt::Display for Stop {
     fn fmt<W: fmt::Write>(&self, f: &mut fmt::Formatter<W>) -> fmt::Result {
-        let Refused(refusal) = *self;
-        write!(
-            f,
-            "refused {} at {} passes {}",
-            refusal.number(),
-            refusal.section(),
-            refusal.passes()
-        )
+        match self {
+            Stop::BadStep => f.write_str("bad step"),
+            Stop::Refused(refusal) => write!(
+                f,
+                "refused {} at {} passes {}",
+                refusal.number(),
+                refusal.section(),
+                refusal.passes()
+            ),
+            Stop::Output(error) => write!(f, "{error}"),
+        }
     }
 }
