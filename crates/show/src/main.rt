@@ -36,7 +36,7 @@ const DISTANCE: AsmReference = AsmReference {
     pushed: false,
 };
 
-// The store of line 12: a mark and a jump to the next one; there, two data bytes, and the distance between the marks.
+// The store of line 12: a mark and a jump to the next one; there, two data bytes and the distance between the marks.
 fn line_12(bytes: &mut [u8], words: &mut [u32]) -> Result<Assembler, Refusal> {
     let mut store = push_mark(Assembler::new(), bytes, words, FIRST)?;
     store = push_op_byte(store, bytes, words, JUMPDEST)?;
@@ -48,18 +48,15 @@ fn line_12(bytes: &mut [u8], words: &mut [u32]) -> Result<Assembler, Refusal> {
     push_reference(store, bytes, words, DISTANCE)
 }
 
-// Its listing, to the text's start: the listing's length.
-fn list_line_12(text: &mut [u8]) -> Result<usize, Refusal> {
+// Where a call is refused, nothing is printed.
+fn main(rt: HostRuntime) -> io::Result<()> {
     let mut bytes = [0; BYTES];
     let mut words = [0; WORDS];
-    let store = line_12(&mut bytes, &mut words)?;
-    write_asm(store, &bytes, &words, text)
-}
-
-// A call that is refused prints nothing.
-fn main(rt: HostRuntime) -> io::Result<()> {
     let mut text = [0; TEXT];
-    let Ok(length) = list_line_12(&mut text) else {
+    let Ok(store) = line_12(&mut bytes, &mut words) else {
+        return Ok(());
+    };
+    let Ok(length) = write_asm(store, &bytes, &words, &mut text) else {
         return Ok(());
     };
     rt.stdout().write_all(&text[..length])
