@@ -29,14 +29,12 @@ pub fn op_name(byte: u8, name: &mut [u8]) -> u64
     ensures answer { result ≡ name_number (op_name byte) name.old }
     ensures written { name.new ≡ name_array (op_name byte) name.old }
 {
-    let found = opcodes::name(byte);
-    let letters = found.0;
-    let len = found.1;
-    if name.len() < len {
+    let letters = opcodes::name(byte).as_bytes();
+    if name.len() < letters.len() {
         return NAMES_NOTHING;
     }
-    slices::write_bytes(name, 0, &letters[..len]);
-    len as u64
+    slices::write_bytes(name, 0, letters);
+    letters.len() as u64
 }
 
 // The bytes of immediate after a push; 0 for what `op::push_size` calls no push.

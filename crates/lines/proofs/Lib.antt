@@ -1,3 +1,4 @@
-pub mod Digits
 pub mod Puts
+pub mod Sinks
+pub mod Digits
 pub mod Turns

@@ -1,40 +1,28 @@
 -- Laws of what the functions put: of each loop's turn, what is left after it, and at the end that nothing is; of a number, a data line and
 -- an immediate, that their parts are the whole; of a span, that it may be cut to the bytes that there are. Assumes nothing.
-use Prim.Native.Nat.{ℕ, suc, ◌+◌, ◌*◌, ◌-◌, ◌/◌, ◌%◌, ◌≤◌, ◌<◌, ◌^◌, min}
+use Prim.Native.Nat.{ℕ, ◌+◌, ◌*◌, ◌-◌, ◌/◌, ◌%◌, ◌≤◌, ◌<◌, ◌^◌, min}
 use native.Mathlib.Omega.{arith}
 use native.Mathlib.Numerals.{add-one}
-use mathlib.Core.Path.{◌≡◌, refl, sym, ap, ◌∙◌, subst}
+use mathlib.Core.Path.{◌≡◌, refl, sym, ap, ◌∙◌}
 use mathlib.Core.Bool.{Bool, true, false}
 use mathlib.Core.List.{List, [], ◌∷◌, ◌++◌, append-nil}
 use lib.ListN.{length, get_or, take, drop, drop_of_length-le}
-use lib.Seq.{slice, drop-cons, slice-cons, slice_empty, length-slice, take_all, length-take-le, drop_at, take-add, take-take, drop-drop}
+use lib.Seq.{slice, drop-cons, slice-cons, length-slice, take_all, length-take-le, drop_at, take-add, take-take, drop-drop}
+use Rattle.std.proofs.lemmas.List.{drop-take}
 use lib.Dec.{ltb, eqb}
 use borrow.Author.Tests.{lt-ltb, le-ltb, ltb-true, ltb-false, ne_eqb}
-use Rattle.lines.specs.Put.{place_after, Put, immediate_at, placed_at}
-use Rattle.lines.specs.Decimal.{digit, decimal}
+use Rattle.lines.specs.Put.{immediate_at, placed_at, first_placed}
 use Rattle.opcodes.specs.Text.{as_bytes}
 use Rattle.evm.specs.YellowPaper.{instruction_length}
 use Rattle.evm.specs.Walk.{walk}
+use Rattle.evm.proofs.Opcodes.{length_bounds}
 use Rattle.evm.proofs.Walks.{walk_next, walk_none}
-use Rattle.lines.specs.Lines.{hex_digit, hex_byte, hex, data_line, cut_text, immediate_text, instruction_line, instruction_lines, ops_lines}
-use Rattle.lines.proofs.Puts.{Left, left_step, left_done, put_is, put_past, join}
-use Rattle.lines.proofs.Digits.{decimal_small, decimal_more}
+use Rattle.lines.specs.Lines.{hex_digit, hex_byte, hex, cut_text, immediate_text, instruction_line, instruction_lines, ops_lines}
+use Rattle.lines.specs.Sink.{added}
+use Rattle.lines.specs.declared.text.TextSink.{TextSink}
+use Rattle.lines.proofs.Sinks.{then, added_is, turn, done}
 
--- what is left, written otherwise
-left_is : {t : List ℕ} {at : ℕ} {whole now : List ℕ} {here : ℕ} {rest other : List ℕ} → rest ≡ other → Left t at whole now here rest → Left t at whole now here other
-left_is {t} {at} {whole} {now} {here} e l = subst (λ (x : List ℕ). Left t at whole now here x) e l
-
--- ---- a byte string, from its byte i on
-
-module _ {t now : List ℕ} {at here : ℕ} (added : List ℕ) (i : ℕ) where
-  pub string_turn : {m : List ℕ} {r : ℕ} → length t < 2 ^ 64 → i < length added → Left t at added now here (drop i added) → Put now here (get_or added i 0 ∷ []) r m
-      → Left t at added m r (drop (i + 1) added)
-  string_turn {m} {r} short h l p = rw (add-one i) (left_step (drop (suc i) added) short (left_is (drop-cons added i 0 h) l) p)
-
-  pub string_done : length added ≤ i → Left t at added now here (drop i added) → Put t at added here now
-  string_done h l = left_done (left_is (drop_of_length-le added h) l)
-
--- ---- bytes in hex, from i to end
+-- ---- bytes in hex, from i on
 
 -- two characters a byte
 pub hex_length : (bs : List ℕ) → length (hex bs) ≡ 2 * length bs
@@ -42,46 +30,27 @@ unfolding hex
 hex_length [] = refl
 hex_length (b ∷ bs) = omega (arith, hex_length bs)
 
--- those from start to end
-hex_count : (bs : List ℕ) (start end : ℕ) → end ≤ length bs → 2 * (end - start) ≡ length (hex (slice start end bs))
-hex_count bs start end k = omega (arith, hex_length (slice start end bs), length-slice start end bs k)
-
--- all of them
-pub hex_all : (bs : List ℕ) → hex (slice 0 (length bs) bs) ≡ hex bs
-hex_all bs = ap hex (take_all (length bs) bs (omega arith))
-
--- past the slice's end they are counted alone
-pub hex_past : {t : List ℕ} {at r : ℕ} (bs : List ℕ) (start end : ℕ) → end ≤ length bs → length t ≤ at → r ≡ place_after at (2 * (end - start)) → Put t at (hex (slice start end bs)) r t
-hex_past {at = at} bs start end k h e = put_past (hex (slice start end bs)) h (e ∙ ap (place_after at) (hex_count bs start end k))
-
 -- two digits, as the code has them
-pub hex_two : {t n m : List ℕ} {at r s : ℕ} {hi lo : ℕ} (b : ℕ) → length t < 2 ^ 64 → hi ≡ hex_digit (b / 16) → lo ≡ hex_digit (b % 16) → Put t at (hi ∷ []) r n → Put n r (lo ∷ []) s m → Put t at (hex_byte b) s m
-hex_two b short e f p q = join short (put_is (ap (λ (d : ℕ). d ∷ []) e) p) (put_is (ap (λ (d : ℕ). d ∷ []) f) q)
+pub hex_two : (s : TextSink) {t u : TextSink} {high low : ℕ} (b : ℕ) → length s.text.now < 2 ^ 64 → high ≡ hex_digit (b / 16) → low ≡ hex_digit (b % 16)
+    → t ≡ added s (high ∷ []) → u ≡ added t (low ∷ []) → u ≡ added s (hex_byte b)
+hex_two s b short e f p q = then s _ _ short (added_is s (ap (λ (d : ℕ). d ∷ []) e) p) (added_is _ (ap (λ (d : ℕ). d ∷ []) f) q)
 
-module _ {t whole now : List ℕ} {at here : ℕ} (bs : List ℕ) (i end : ℕ) (short : length t < 2 ^ 64) (h : i < end) (k : end ≤ length bs) (l : Left t at whole now here (hex (slice i end bs))) where
-  -- the first byte, and the rest
-  hex_more : hex (slice i end bs) ≡ hex_byte (get_or bs i 0) ++ hex (slice (suc i) end bs)
+module _ (r : TextSink) (whole : List ℕ) (s : TextSink) (bs : List ℕ) (i : ℕ) where
+  -- a turn adds the first byte
+  pub hex_turn : {t : TextSink} → length r.text.now < 2 ^ 64 → i < length bs → added s (hex (drop i bs)) ≡ added r whole → t ≡ added s (hex_byte (get_or bs i 0)) → added t (hex (drop (i + 1) bs)) ≡ added r whole
   unfolding hex
-  hex_more = ap hex (slice-cons i end bs 0 h k)
+  hex_turn short h left p = rw (add-one i) (turn r whole s _ _ short (ap hex (drop-cons bs i 0 h)) left p)
 
-  pub hex_turn : {m : List ℕ} {r : ℕ} → Put now here (hex_byte (get_or bs i 0)) r m → Left t at whole m r (hex (slice (i + 1) end bs))
-  hex_turn {m} {r} p = rw (add-one i) (left_step (hex (slice (suc i) end bs)) short (left_is hex_more l) p)
+  -- none is left
+  pub hex_done : s.place < 2 ^ 64 → length bs ≤ i → added s (hex (drop i bs)) ≡ added r whole → s ≡ added r whole
+  unfolding hex
+  hex_done small h left = done r whole s small (ap hex (drop_of_length-le bs h)) left
 
-pub hex_done : {t whole now : List ℕ} {at here : ℕ} (bs : List ℕ) (i end : ℕ) → i ≤ end → end ≤ i → Left t at whole now here (hex (slice i end bs)) → Put t at whole here now
-unfolding hex
-hex_done {t} {whole} {now} {at} {here} bs i end h k l =
-    let e : i ≡ end = omega arith in
-    left_done (left_is (ap (λ (j : ℕ). hex (slice j end bs)) e ∙ ap hex (slice_empty end bs)) l)
-
--- ---- a decimal number
-
--- a number of one digit
-pub decimal_one : {t m : List ℕ} {at r : ℕ} (v : ℕ) → v < 10 → Put t at (digit v ∷ []) r m → Put t at (decimal v) r m
-decimal_one v h p = put_is (sym (decimal_small v h)) p
-
--- the others: all but the last digit, and the last
-pub decimal_then : {t n m : List ℕ} {at r s : ℕ} (v : ℕ) → length t < 2 ^ 64 → 10 ≤ v → Put t at (decimal (v / 10)) r n → Put n r (digit (v % 10) ∷ []) s m → Put t at (decimal v) s m
-decimal_then v short h p q = put_is (sym (decimal_more v h)) (join short p q)
+-- a part as the code has it, from s to e
+pub part_is : (bs : List ℕ) (s e : ℕ) → s ≤ e → take (e - s) (drop s bs) ≡ slice s e bs
+part_is bs s e h =
+    let there : s + (e - s) ≡ e = omega arith in
+    sym (drop-take s (e - s) bs) ∙ ap (λ (k : ℕ). slice s k bs) there
 
 -- ---- a span cut to the bytes that there are, as the code has its ends
 
@@ -131,17 +100,6 @@ module _ (bs : List ℕ) (s e : ℕ) {b : ℕ} (end_is : b ≡ min e (length bs)
   pub cut_count : {a : ℕ} → a ≡ min s b → length (slice s e bs) ≡ b - a
   cut_count {a} start_is = sym (ap length (cut_part start_is)) ∙ length-slice a b bs (omega arith)
 
--- ---- a data line, where n is the count as the code has it
-
-module _ (bs : List ℕ) (n : ℕ) (counted : length bs ≡ n) where
-  -- the line with that count
-  data_is : as_bytes "  data 0x" ++ hex bs ++ as_bytes " (" ++ decimal n ++ as_bytes " bytes)\n" ≡ data_line bs
-  unfolding data_line
-  data_is = ap (λ (k : ℕ). as_bytes "  data 0x" ++ hex bs ++ as_bytes " (" ++ decimal k ++ as_bytes " bytes)\n") (sym counted)
-
-  pub data_put : {t m : List ℕ} {at r : ℕ} → Put t at (as_bytes "  data 0x" ++ hex bs ++ as_bytes " (" ++ decimal n ++ as_bytes " bytes)\n") r m → Put t at (data_line bs) r m
-  data_put p = put_is data_is p
-
 -- the first n elements of a part
 take_slice : (bs : List ℕ) (n s e : ℕ) → s + n ≤ e → e ≤ length bs → take n (slice s e bs) ≡ slice s (s + n) bs
 take_slice bs n s e h k =
@@ -149,28 +107,39 @@ take_slice bs n s e h k =
     let a : length (take s l) ≡ s = length-take-le s l (rw (length-take-le e bs k) (omega arith)) in
     sym (drop_at (take s l) (take n (drop s l)) s a) ∙ ap (drop s) (sym (take-add s n l) ∙ take-take (s + n) e bs h)
 
--- ---- an immediate of n bytes from s on, in a run that ends at e
+-- ---- an immediate of n bytes, where the rest of the section is r
 
-module _ (bs : List ℕ) (n s e : ℕ) (some : 0 < n) (ordered : s ≤ e) (within : e ≤ length bs) where
-  -- cut: the run has fewer
-  pub immediate_cut : e - s < n → as_bytes " 0x" ++ hex (slice s e bs) ++ as_bytes " (truncated)" ≡ immediate_at bs n s e
+module _ (n : ℕ) (r : List ℕ) (some : 0 < n) where
+  -- cut: the rest is shorter
+  pub immediate_short : length r < n → as_bytes " 0x" ++ hex r ++ as_bytes " (truncated)" ≡ immediate_text n (take n r)
   unfolding immediate_text cut_text
-  immediate_cut h =
-      let l : length (slice s e bs) ≡ e - s = length-slice s e bs within in
-      let a : take n (slice s e bs) ≡ slice s e bs = take_all n (slice s e bs) (omega arith) in
+  immediate_short h =
+      let a : take n r ≡ r = take_all n r (omega arith) in
       let z : eqb n 0 ≡ false = ne_eqb n 0 (omega arith) in
-      let t : ltb (e - s) n ≡ true = lt-ltb (e - s) n h in
-      rw (a, z, l, t)
+      let t : ltb (length r) n ≡ true = lt-ltb (length r) n h in
+      rw (a, z, t)
 
   -- whole
-  pub immediate_whole : n ≤ e - s → as_bytes " 0x" ++ hex (slice s (s + n) bs) ≡ immediate_at bs n s e
+  pub immediate_full : n ≤ length r → as_bytes " 0x" ++ hex (take n r) ≡ immediate_text n (take n r)
   unfolding immediate_text cut_text
-  immediate_whole h =
-      let l : length (slice s (s + n) bs) ≡ n = length-slice s (s + n) bs (omega arith) ∙ omega arith in
-      let a : take n (slice s e bs) ≡ slice s (s + n) bs = take_slice bs n s e (omega arith) within in
+  immediate_full h =
+      let l : length (take n r) ≡ n = length-take-le n r h in
       let z : eqb n 0 ≡ false = ne_eqb n 0 (omega arith) in
       let t : ltb n n ≡ false = le-ltb n n (omega arith) in
-      rw (a, z, l, t, append-nil)
+      rw (l, z, t, append-nil)
+
+-- the same, from s on in a run that ends at e
+module _ (bs : List ℕ) (n s e : ℕ) (some : 0 < n) (ordered : s ≤ e) (within : e ≤ length bs) where
+  run_length : length (slice s e bs) ≡ e - s
+  run_length = length-slice s e bs within
+
+  pub immediate_cut : e - s < n → as_bytes " 0x" ++ hex (slice s e bs) ++ as_bytes " (truncated)" ≡ immediate_at bs n s e
+  immediate_cut h = immediate_short n (slice s e bs) some (omega (arith, run_length))
+
+  pub immediate_whole : n ≤ e - s → as_bytes " 0x" ++ hex (slice s (s + n) bs) ≡ immediate_at bs n s e
+  immediate_whole h =
+      let a : take n (slice s e bs) ≡ slice s (s + n) bs = take_slice bs n s e (omega arith) within in
+      rw (← a) (immediate_full n (slice s e bs) some (omega (arith, run_length)))
 
 -- an opcode without one
 pub immediate_none : (n : ℕ) (x : List ℕ) → n ≡ 0 → [] ≡ immediate_text n x
@@ -197,11 +166,31 @@ ops_none bs i end h k =
     let l : length (take end bs) ≤ i = rw (length-take-le end bs k) h in
     ap (λ (l : List ℕ). instruction_lines (walk l)) (drop_of_length-le (take end bs) l) ∙ ap instruction_lines walk_none
 
--- the line of an instruction, and on from the next, whose place the code has as i + n
-pub ops_turn : {t whole now m : List ℕ} {at here r : ℕ} (bs : List ℕ) (i end n : ℕ) → length t < 2 ^ 64 → i < end → end ≤ length bs → n ≡ instruction_length (get_or bs i 0)
-    → Left t at whole now here (ops_lines (slice i end bs)) → Put now here (instruction_line (placed_at bs i end)) r m → Left t at whole m r (ops_lines (slice (i + n) end bs))
-ops_turn bs i end n short h k e l p =
-    rw e (left_step (ops_lines (slice (i + instruction_length (get_or bs i 0)) end bs)) short (left_is (ops_more bs i end h k) l) p)
+-- a run's first instruction, and those of the rest
+pub lines_next : (code : List ℕ) → 0 < length code → ops_lines code ≡ instruction_line (first_placed code) ++ ops_lines (drop (instruction_length (get_or code 0 0)) code)
+unfolding ops_lines instruction_lines
+lines_next [] h = absurd (omega arith)
+lines_next (op ∷ rest) h = ap instruction_lines (walk_next op rest)
 
-pub ops_done : {t whole now : List ℕ} {at here : ℕ} (bs : List ℕ) (i end : ℕ) → end ≤ i → end ≤ length bs → Left t at whole now here (ops_lines (slice i end bs)) → Put t at whole here now
-ops_done bs i end h k l = left_done (left_is (ops_none bs i end h k) l)
+-- an instruction is 1 to 33 bytes long, as the code has it
+pub steps : (op : ℕ) {n : ℕ} → n ≡ instruction_length op → (0 < n) × (n ≤ 33)
+steps op e = omega (arith, length_bounds op)
+
+-- a walk of them, from i to end
+module _ (r : TextSink) (whole : List ℕ) (s : TextSink) (bs : List ℕ) (i end : ℕ) (within : end ≤ length bs) where
+  -- a turn adds the first instruction's line, and goes on at the next, whose place the code has as i + n
+  pub ops_turn : {t : TextSink} (n : ℕ) → length r.text.now < 2 ^ 64 → i < end → n ≡ instruction_length (get_or (take (end - i) (drop i bs)) 0 0)
+      → added s (ops_lines (slice i end bs)) ≡ added r whole → t ≡ added s (instruction_line (first_placed (take (end - i) (drop i bs))))
+      → added t (ops_lines (slice (i + n) end bs)) ≡ added r whole
+  ops_turn n short h was left put =
+      let code : List ℕ = slice i end bs in
+      let part : take (end - i) (drop i bs) ≡ code = part_is bs i end (omega arith) in
+      let e = rw part at was in
+      let p = rw part at put in
+      let some : 0 < length code = omega (arith, length-slice i end bs within) in
+      let next : drop (instruction_length (get_or code 0 0)) code ≡ slice (i + n) end bs = ap (λ (k : ℕ). drop k code) (sym e) ∙ drop-drop n i (take end bs) in
+      turn r whole s _ _ short (lines_next code some ∙ ap (λ (l : List ℕ). instruction_line (first_placed code) ++ ops_lines l) next) left p
+
+  -- none is left
+  pub ops_done : s.place < 2 ^ 64 → end ≤ i → added s (ops_lines (slice i end bs)) ≡ added r whole → s ≡ added r whole
+  ops_done small h left = done r whole s small (ops_none bs i end h within) left

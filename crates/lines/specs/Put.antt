@@ -1,6 +1,6 @@
 -- What the functions that put text promise. A slice takes what fits into it: bytes past its end are counted and not stored, so that the
 -- same walk counts, on an empty slice, and writes. Assumes nothing.
-use Rattle.std.specs.Prelude.{ℕ, ◌+◌, ◌-◌, ◌^◌, min, ◌≡◌, List, length, get_or, take}
+use Rattle.std.specs.Prelude.{ℕ, ◌+◌, ◌-◌, ◌^◌, min, ◌≡◌, List, length, get_or, take, drop}
 use Rattle.std.proofs.lemmas.List.Edits.{sets}
 use Rattle.std.proofs.Math.Seq.{slice}
 use Rattle.evm.specs.YellowPaper.{push_size}
@@ -17,6 +17,10 @@ pub record Put (before : List ℕ) (at : ℕ) (added : List ℕ) (next : ℕ) (a
   pub text : after ≡ sets before at added
 
 -- ---- for the private functions of ops.rt
+
+-- the first instruction of a run of code
+abbrev pub first_placed : List ℕ → Placed
+first_placed code = record { opcode = get_or code 0 0; immediate = take (push_size (get_or code 0 0)) (drop 1 code) }
 
 -- the immediate of a push of so many bytes that starts at `start`, in a run of code that ends at `end`
 abbrev pub immediate_at : List ℕ → ℕ → ℕ → ℕ → List ℕ

@@ -8,18 +8,22 @@ use mathlib.Core.Path.{◌≡◌, refl, sym, ap, ◌∙◌, subst}
 use mathlib.Core.List.{List, [], ◌++◌}
 use lib.ListN.{length, length-append}
 use Rattle.records.specs.Record.{read_section}
-use Rattle.records.specs.Store.{Store, section_words}
-use Rattle.records.specs.Sections.{Section, section_read, decode_at, decode_from, decode}
+use Rattle.records.specs.Store.{Store, store_of, section_words}
+use Rattle.records.specs.Sections.{section_read, decode_at, decode_from, decode}
 use Rattle.records.specs.declared.record.StoredSection.{StoredSection}
+use Rattle.std.specs.Prelude.{Result, Ok, IfOk}
+use Rattle.records.specs.declared.damage.Damage.{Damage}
+use Rattle.records.specs.declared.Assembler.{Assembler}
+use Rattle.undamaged.specs.declared.store.UndamagedStore.{UndamagedStore}
 use Rattle.undamaged.specs.View.{Undamaged, Facts}
 use Rattle.undamaged.specs.Section.{ReadIn}
 use Rattle.undamaged.proofs.Soundness.{undamaged_iff}
 use Rattle.undamaged.proofs.Sections.{section_in, section_held}
-use Rattle.listing.specs.Room.{Room, words_text, Listable}
-use Rattle.listing.specs.Sink.{added}
-use Rattle.listing.specs.declared.sink.TextSink.{TextSink}
+use Rattle.lines.specs.Sink.{added}
+use Rattle.lines.specs.declared.text.TextSink.{TextSink}
+use Rattle.lines.proofs.Sinks.{turn, done}
+use Rattle.listing.specs.Room.{Room, store_in, words_text, store_text}
 use Rattle.listing.specs.Listing.{section_text, listing}
-use Rattle.listing.proofs.Added.{added_none, added_append}
 use Rattle.listing.proofs.Lengths.{section_length}
 
 -- the sections from i on
@@ -53,23 +57,16 @@ module _ (w : ℕ) (st : Store) where
   unfolding decode_at
   at_words i x e = ap (λ (y : StoredSection). section_read st.bytes (read_section y)) (sym e)
 
-  -- ---- what the code's turn asks. F is the sink at the end: adding what is left to the sink gives it, at every turn
-  module _ {F : TextSink} (h : TextSink) (i : ℕ) (left : added h (rest w st i) ≡ F) where
+  -- ---- what the code's turn asks: adding what is left to the sink s gives what adding the whole text to the sink r gives
+  module _ (r : TextSink) (whole : List ℕ) (s : TextSink) (i : ℕ) (left : added s (rest w st i) ≡ added r whole) where
     -- a section by its words x
-    module _ (l : i < st.sections) (x : StoredSection) (e : x ≡ section_words w st i) where
-      split : rest w st i ≡ words_text st.bytes x ++ rest w st (i + 1)
-      split = rest_next i l ∙ ap (λ (y : Section). section_text y ++ rest w st (i + 1)) (at_words i x e)
+    pub every_turn : {t : TextSink} (x : StoredSection) → length r.text.now < 2 ^ 64 → i < st.sections → x ≡ section_words w st i → t ≡ added s (words_text st.bytes x) → added t (rest w st (i + 1)) ≡ added r whole
+    every_turn x short l e p =
+        let split : rest w st i ≡ words_text st.bytes x ++ rest w st (i + 1) = rest_next i l ∙ ap (λ (y : List ℕ). y ++ rest w st (i + 1)) (ap section_text (at_words i x e)) in
+        turn r whole s _ _ short split left p
 
-      pub every_turn : {g : TextSink} → g ≡ added h (words_text st.bytes x) → added g (rest w st (i + 1)) ≡ F
-      every_turn p =
-          ap (λ (k : TextSink). added k (rest w st (i + 1))) p ∙ added_append h (words_text st.bytes x) (rest w st (i + 1)) ∙ ap (added h) (sym split) ∙ left
-
-      pub every_room : F.count < 2 ^ 64 → Room h.count (words_text st.bytes x)
-      every_room fits =
-          record { fits = omega (arith, length-append (words_text st.bytes x) (rest w st (i + 1)), ap length split, ap (λ (k : TextSink). k.count) left) }
-
-    pub every_done : st.sections ≤ i → h ≡ F
-    every_done l = sym (added_none h) ∙ ap (added h) (sym (rest_none i l)) ∙ left
+    pub every_done : s.place < 2 ^ 64 → st.sections ≤ i → s ≡ added r whole
+    every_done small l = done r whole s small (rest_none i l) left
 
   -- ---- in an undamaged store
 
@@ -94,6 +91,15 @@ module _ (w : ℕ) (st : Store) where
     unfolding decode
     listing_short = omega (arith, from_length st.sections 0 (omega arith), facts.sections_limit)
 
--- an undamaged store has room from the text's start on
-pub listable : (w : ℕ) (st : Store) → Undamaged w st → Listable w st 0
-listable w st u = record { sound = u; room = omega (arith, listing_short w st ((undamaged_iff w st).0 u)) }
+-- so a text has room for it from its start on
+pub store_room : (w : ℕ) (st : Store) → Undamaged w st → Room 0 (store_text w st)
+store_room w st u = record { fits = omega (arith, listing_short w st ((undamaged_iff w st).0 u)) }
+
+-- ---- the store that the code has
+
+-- it is the one that was tested
+pub store_same : (tested : Result UndamagedStore Damage) (store : UndamagedStore) (counts : Assembler) (bytes words : List ℕ)
+    → IfOk tested (λ s. (s.counts ≡ counts) × (s.bytes.now ≡ bytes) × (s.words.now ≡ words)) → tested ≡ Ok store → store_in store ≡ store_of counts bytes words
+store_same tested store counts bytes words is was =
+    let same : (store.counts ≡ counts) × (store.bytes.now ≡ bytes) × (store.words.now ≡ words) = subst (λ (r : Result UndamagedStore Damage). IfOk r (λ s. (s.counts ≡ counts) × (s.bytes.now ≡ bytes) × (s.words.now ≡ words))) was is in
+    λ i. store_of (same.0 i) (same.1 i) (same.2 i)

@@ -6,6 +6,11 @@ use native.Mathlib.Nat.{zero-add}
 use mathlib.Core.Path.{◌≡◌, refl, sym, ap, ◌∙◌, subst}
 use mathlib.Core.Bool.{Bool, true, false, cond}
 use mathlib.Core.Logic.{◌↔◌}
+use Rattle.std.specs.Prelude.{Result, Err, IsErrAnd}
+use Rattle.std.proofs.lemmas.Result.{err_from_is_err_and}
+use Rattle.records.specs.declared.damage.Damage.{Damage}
+use Rattle.units.specs.declared.reply.Refusal as refusal
+use Rattle.units.specs.declared.reply.Refusal.{Refusal}
 use mathlib.Core.List.{List, ◌++◌}
 use lib.ListN.{length, drop}
 use lib.Seq.{sets, sets-eq}
@@ -15,15 +20,14 @@ use Rattle.units.specs.Replies as number
 use Rattle.units.specs.Replies.{listing_full}
 use Rattle.units.specs.Reply.{Reply, accepted, refused}
 use Rattle.records.specs.Store.{Store}
-use Rattle.records.specs.Damage.{whole_soundness}
 use Rattle.records.specs.Sections.{decode}
-use Rattle.records.specs.Damage.{Soundness}
-use Rattle.records.specs.Damage.{Sound, Damaged}
+use Rattle.records.specs.Damage.{Soundness, Sound, Damaged, soundness_of, whole_soundness}
 use Rattle.undamaged.specs.View.{Undamaged}
+use Rattle.undamaged.specs.declared.store.UndamagedStore.{UndamagedStore}
 use Rattle.undamaged.proofs.Soundness.{damaged_at_iff}
 use Rattle.listing.specs.Listing.{listing}
 use Rattle.listing.specs.Room.{store_text}
-use Rattle.listing.specs.Answer.{listing_reply, listing_buffer}
+use Rattle.listing.specs.Answer.{listed_reply, listing_reply, listing_buffer}
 use Rattle.listing.specs.ListingAnswers.{ListingAnswer, written, damaged, full, answer_reply, AnswerSays, buffer_after}
 
 -- the answer that a reply is
@@ -103,18 +107,30 @@ module _ (w : ℕ) (st : Store) (buffer : List ℕ) where
   pub answers_damaged : (i : ℕ) → whole_soundness w st ≡ Damaged i → Answers (refused number.damaged i 0) buffer
   answers_damaged i e = answers (damaged i) ((damaged_at_iff w st i).0 e)
 
-  -- an undamaged store; n is the listing's length as the code has it, and the buffer is as it was once it is known
-  module _ (u : Undamaged w st) (n : ℕ) (counted : n ≡ length (store_text w st)) {then : List ℕ} (same : then ≡ buffer) where
+  -- an undamaged store; n is the listing's length as the code has it
+  module _ (u : Undamaged w st) (n : ℕ) (counted : n ≡ length (store_text w st)) where
     -- 14: the listing passes the buffer
-    pub answers_full : length then < n → Answers (refused listing_full 0 0) then
-    answers_full h =
-        let given = answers full (u, omega (arith, ap length same)) in
-        (given.0, same ∙ given.1)
+    pub answers_full : length buffer < n → Answers (refused listing_full 0 0) buffer
+    answers_full h = answers full (u, omega arith)
 
     -- it fits
-    pub answers_text : {after : List ℕ} → n ≤ length then → after ≡ sets then 0 (store_text w st) → Answers (accepted n) after
+    pub answers_text : {after : List ℕ} → n ≤ length buffer → after ≡ sets buffer 0 (store_text w st) → Answers (accepted n) after
     answers_text h p =
         let text : List ℕ = store_text w st in
-        let given = answers (written n) (u, counted, omega (arith, ap length same)) in
-        let put = p ∙ ap (λ (l : List ℕ). sets l 0 text) same ∙ sets-eq text buffer 0 (omega (arith, ap length same)) ∙ ap (λ (k : ℕ). text ++ drop k buffer) (zero-add _ ∙ sym counted) in
+        let given = answers (written n) (u, counted, h) in
+        let put = p ∙ sets-eq text buffer 0 (omega arith) ∙ ap (λ (k : ℕ). text ++ drop k buffer) (zero-add _ ∙ sym counted) in
         (given.0, put ∙ given.1)
+
+-- ---- a damaged store, as the code hears of it
+
+module _ (w : ℕ) (st : Store) (buffer : List ℕ) (tested : Result UndamagedStore Damage) (found : soundness_of tested ≡ whole_soundness w st) (damage : Damage) (was : tested ≡ Err damage) where
+  broken : whole_soundness w st ≡ Damaged damage.section
+  broken = sym found ∙ ap soundness_of was
+
+  pub refused_reply : (answer : Result ℕ Refusal) → IsErrAnd answer (λ r. r ≡ refusal.TheVariants.Damaged damage.section) → listed_reply answer ≡ listing_reply w st buffer
+  refused_reply answer is =
+      let refused = err_from_is_err_and answer is in
+      ap listed_reply (refused.1 ∙ ap Err refused.2) ∙ (answers_damaged w st buffer damage.section broken).0
+
+  pub refused_buffer : buffer ≡ listing_buffer w st buffer
+  refused_buffer = (answers_damaged w st buffer damage.section broken).1

@@ -17,14 +17,11 @@ use Rattle.undamaged.proofs.Reading.{reads, mark_read, ops_read, data_read}
 use Rattle.undamaged.proofs.Sections.{can_read}
 use Rattle.lines.specs.Lines.{mark_line, ops_lines, data_line, reference_line}
 use Rattle.listing.specs.Listing.{section_text}
-use Rattle.listing.specs.Room.{Room, words_text}
+use Rattle.listing.specs.Room.{words_text}
 
--- what the words of a section ask of the bytes; and of a place too, where its text is added
+-- what the words of a section ask of the bytes
 abbrev pub Needs : List ℕ → StoredSection → Type 0
 Needs bs x = ReadIn (length bs) (read_section x)
-
-abbrev pub Asked : ℕ → List ℕ → StoredSection → Type 0
-Asked at bs x = Needs bs x × Room at (words_text bs x)
 
 module _ (bs : List ℕ) (x : StoredSection) (here : Needs bs x) where
   pub readable : unreadable (read_section x) ≡ false

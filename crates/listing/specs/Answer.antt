@@ -1,21 +1,18 @@
 -- Document 01, 'Replies', for a listing: 6, then 14, else the text's length; and what the text buffer holds after the call.
 -- For every store, damaged or not. Assumes nothing.
-use Rattle.std.specs.Prelude.{ℕ, cond, List, ◌++◌, length, drop, ltb}
+use Rattle.std.specs.Prelude.{ℕ, cond, List, ◌++◌, length, drop, ltb, Result, Ok, Err}
 use Rattle.units.specs.Replies.{damaged, listing_full}
 use Rattle.units.specs.Reply.{Reply, accepted, refused, refusal_reply}
+use Rattle.units.specs.declared.reply.Refusal.{Refusal}
 use Rattle.records.specs.Store.{Store}
-use Rattle.records.specs.Damage.{whole_soundness}
+use Rattle.records.specs.Damage.{Soundness, Sound, Damaged, whole_soundness}
 use Rattle.records.specs.Sections.{decode}
-use Rattle.records.specs.Damage.{Soundness}
-use Rattle.records.specs.Damage.{Sound, Damaged}
 use Rattle.listing.specs.Listing.{listing}
-use Rattle.listing.specs.declared.Listed.{Listed}
-use Rattle.listing.specs.declared.Listed.TheVariants.{Text, Refused}
 
 -- what each answer of the code stands for: the text's length, or a refusal
-abbrev pub listed_reply : Listed → Reply ℕ
-listed_reply (Text n) = accepted n
-listed_reply (Refused r) = refusal_reply r
+abbrev pub listed_reply : Result ℕ Refusal → Reply ℕ
+listed_reply (Ok n) = accepted n
+listed_reply (Err r) = refusal_reply r
 
 -- the answer, from the whole test, the listing and the buffer
 abbrev pub reply_for : Soundness → List ℕ → List ℕ → Reply ℕ

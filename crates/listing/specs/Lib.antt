@@ -2,4 +2,3 @@ pub mod Listing
 pub mod Answer
 pub mod ListingAnswers
 pub mod Room
-pub mod Sink

@@ -4,12 +4,16 @@ use Rattle.records.specs.Record.{read_section}
 use Rattle.records.specs.Store.{Store, store_of}
 use Rattle.records.specs.Sections.{section_read, decode}
 use Rattle.records.specs.declared.record.StoredSection.{StoredSection}
-use Rattle.undamaged.specs.View.{Undamaged}
+use Rattle.undamaged.specs.declared.store.UndamagedStore.{UndamagedStore}
 use Rattle.listing.specs.Listing.{section_text, listing}
 
 -- there is room for `added` from `at` on: the place after it is a number that the machine has
 pub record Room (at : ℕ) (added : List ℕ) : Type 0 where
   pub fits : at + length added < 2 ^ 64
+
+-- the store that the code has as undamaged
+abbrev pub store_in : UndamagedStore → Store
+store_in store = store_of store.counts store.bytes.now store.words.now
 
 -- the text of the section that three words are
 abbrev pub words_text : List ℕ → StoredSection → List ℕ
@@ -18,12 +22,3 @@ words_text bs x = section_text (section_read bs (read_section x))
 -- the text of a store
 abbrev pub store_text : ℕ → Store → List ℕ
 store_text w st = listing (decode w st)
-
--- an undamaged store whose text has room from `at` on
-pub record Listable (w : ℕ) (st : Store) (at : ℕ) : Type 0 where
-  pub sound : Undamaged w st
-  pub room : Room at (store_text w st)
-
--- a store, by its two counts and its two slices
-abbrev pub store_with : ℕ → ℕ → List ℕ → List ℕ → Store
-store_with stored sections bytes words = store_of (record { bytes = stored; sections = sections }) bytes words

@@ -1,80 +1,57 @@
 -- Laws of the opcodes' names: the arm of a named opcode, and the arm of those that have none. Assumes nothing.
-use Prim.Native.Nat.{ℕ, zero, suc, ◌+◌, ◌-◌, ◌≤◌, ◌<◌}
-use Prim.Native.String.{String}
+use Prim.Native.Nat.{ℕ, ◌≤◌}
 use native.Mathlib.Omega.{arith}
-use native.Mathlib.Decide.{ℕ_discrete}
-use mathlib.Core.Path.{◌≡◌, refl, sym, ap, ◌∙◌}
+use Prim.Native.String.{String}
+use mathlib.Core.Path.{◌≡◌, refl, ◌∙◌}
 use mathlib.Core.Bool.{Bool, true, false, cond}
 use mathlib.Core.List.{List, [], ◌∷◌}
-use lib.ListN.{length, take, replicate, length-append}
-use lib.Seq.{take-append_seam}
-use lib.Dec.{T, leb, eqb}
-use borrow.Author.Tests.{leb-true}
-use lib.Text.{eqt, eqt→eq}
+use lib.ListN.{length}
+use lib.Dec.{leb, eqb}
+use borrow.Author.Tests.{leb-true, ne_eqb}
 use Rattle.opcodes.specs.Text.{as_bytes}
-use Rattle.opcodes.specs.Names.{lookup, op_names, op_name, longest_name, padded}
-use Rattle.opcodes.specs.declared.OpName.{OpName}
+use Rattle.opcodes.specs.Names.{longest_name, lookup, op_names, op_name}
 
 -- the arm of one opcode
-pub named : (op k : ℕ) (r : OpName) → op ≡ k → r ≡ padded (op_name k) → r ≡ padded (op_name op)
-named op k r e h = rw e h
+pub named : {op k : ℕ} {r : List ℕ} → op ≡ k → r ≡ op_name k → r ≡ op_name op
+named e h = rw e h
 
--- a test holds of each of the n numbers from a on
-abbrev pub all_from : (ℕ → Bool) → ℕ → ℕ → Bool
-all_from test a zero = true
-all_from test a (suc n) = cond (test a) (all_from test (suc a) n) false
+-- a number is none of those in a list, said as the last arm says it: one after the other, behind what is known already
+abbrev pub Missed : ℕ → Type 0 → List (ℕ × String) → Type 0
+Missed op known [] = known
+Missed op known (entry ∷ rest) = Missed op (known × (op ≡ entry.0 → ⊥)) rest
+
+-- what is known already is among it
+known_too : (op : ℕ) (known : Type 0) (names : List (ℕ × String)) → Missed op known names → known
+known_too op known [] missed = missed
+known_too op known (entry ∷ rest) missed = (known_too op (known × (op ≡ entry.0 → ⊥)) rest missed).0
+
+-- then the list has no text for it
+no_text : (op : ℕ) (known : Type 0) (names : List (ℕ × String)) (other : String) → Missed op known names → lookup op names other ≡ other
+unfolding lookup
+no_text op known [] other missed = refl
+no_text op known (entry ∷ rest) other missed =
+    let known_here = known × (op ≡ entry.0 → ⊥) in
+    let differs : eqb op entry.0 ≡ false = ne_eqb op entry.0 (known_too op known_here rest missed).1 in
+    rw differs (no_text op known_here rest other missed)
+
+-- the arm of the bytes that have no name
+pub unnamed : (op : ℕ) {r : List ℕ} → Missed op Unit op_names → r ≡ as_bytes "UNKNOWN" → r ≡ op_name op
+unfolding op_name
+unnamed op missed e = e ∙ rw (no_text op Unit op_names "UNKNOWN" missed) refl
+
+-- ---- for callers
 
 -- two tests in a row
 both : (b r : Bool) → cond b r false ≡ true → (b ≡ true) × (r ≡ true)
 both true r e = (refl, e)
-both false r e = let z : ◌≡◌ {A = ℕ} 0 1 = cc in absurd (omega arith)
+both false r e = cc
 
--- so it holds of any one of them
-all_at : (test : ℕ → Bool) (a n k : ℕ) → all_from test a n ≡ true → a ≤ k → k < a + n → test k ≡ true
-all_at test a zero k e l h = absurd (omega arith)
-all_at test a (suc n) k e l h = go (ℕ_discrete a k) (all_at test (suc a) n k (both (test a) (all_from test (suc a) n) e).1)
-  where
-    go : Dec (a ≡ k) → (suc a ≤ k → k < suc a + n → test k ≡ true) → test k ≡ true
-    go (yes s) later = ap test (sym s) ∙ (both (test a) (all_from test (suc a) n) e).0
-    go (no s) later = later (omega arith) (omega arith)
-
--- none of the n numbers from a on
-abbrev pub Missed : ℕ → ℕ → ℕ → Type 0
-Missed op a zero = Unit
-Missed op a (suc n) = Missed op a n × (op ≡ a + n → ⊥)
-
--- a number from a on that is none of them is past them
-pub past : (op a n : ℕ) → a ≤ op → Missed op a n → a + n ≤ op
-past op a zero l m = omega arith
-past op a (suc n) l m =
-    let h = past op a n l m.0 in
-    let u = m.1 in
-    omega arith
-
--- an opcode that op.rs doesn't name
-abbrev pub is_unknown : ℕ → Bool
-is_unknown op = eqt (lookup op op_names "UNKNOWN") "UNKNOWN"
-
--- a test's answer as a proof of it
-holds : (b : Bool) → b ≡ true → T b
-holds true e = tt
-holds false e = let z : ◌≡◌ {A = ℕ} 0 1 = cc in absurd (omega arith)
-
--- the arm of the opcodes from a on that have no name
-pub unnamed : (op a n : ℕ) (r : OpName) → all_from is_unknown a n ≡ true → a ≤ op → op < a + n → r ≡ padded (as_bytes "UNKNOWN") → r ≡ padded (op_name op)
-unfolding op_name
-unnamed op a n r e l h u =
-    let same = eqt→eq (lookup op op_names "UNKNOWN") "UNKNOWN" (holds (is_unknown op) (all_at is_unknown a n op e l h)) in
-    rw same u
-
--- ---- for callers
-
--- every text of a list has room in a name's array
+-- no text of a list is longer than the longest name
 abbrev all_fit : List (ℕ × String) → Bool
 all_fit [] = true
 all_fit (entry ∷ rest) = cond (leb (length (as_bytes entry.1)) longest_name) (all_fit rest) false
 
--- so has the one that stands beside a number
+-- nor is the one that stands beside a number
 lookup_fits : (n : ℕ) (names : List (ℕ × String)) → all_fit names ≡ true → length (as_bytes (lookup n names "UNKNOWN")) ≤ longest_name
 unfolding lookup as_bytes
 lookup_fits n [] e = omega arith
@@ -87,18 +64,7 @@ lookup_fits n (entry ∷ rest) e = go (eqb n entry.0) (lookup_fits n rest all.1)
     go true h = leb-true (length (as_bytes entry.1)) longest_name all.0
     go false h = h
 
--- no name is longer than its array
+-- no name is longer than that
 pub name_fits : (op : ℕ) → length (op_name op) ≤ longest_name
 unfolding op_name op_names as_bytes
 name_fits op = lookup_fits op op_names refl
-
--- the array's first bytes, as many as its length says, are the name
-pub name_taken : (op : ℕ) (r : OpName) → r ≡ padded (op_name op) → take r.1 r.0 ≡ op_name op
-unfolding padded
-name_taken op r e =
-    ap (λ (x : OpName). take x.1 x.0) e ∙ take-append_seam (op_name op) (replicate (longest_name - length (op_name op)) 0)
-
--- and it has so many
-pub name_within : (op : ℕ) (r : OpName) → r ≡ padded (op_name op) → r.1 ≤ length r.0
-unfolding padded
-name_within op r e = rw e (rw length-append (omega arith))

@@ -1,8 +1,7 @@
 -- Document 01, module 5: `op::name` of op.rs (source document 002), for every byte. Assumes nothing.
-use Rattle.std.specs.Prelude.{ℕ, ◌-◌, cond, List, [], ◌∷◌, ◌++◌, length, replicate, eqb}
+use Rattle.std.specs.Prelude.{ℕ, cond, List, [], ◌∷◌, eqb}
 use Prim.Native.String.{String}
 use Rattle.opcodes.specs.Text.{as_bytes}
-use Rattle.opcodes.specs.declared.OpName.{OpName}
 
 -- the text that stands beside a number in a list, another where there is none
 unfoldable pub lookup : ℕ → List (ℕ × String) → String → String
@@ -51,7 +50,3 @@ op_name op = as_bytes (lookup op op_names "UNKNOWN")
 -- the longest name's length
 abbrev pub longest_name : ℕ
 longest_name = 14
-
--- a name as the code answers it: its bytes and then zeros, and its length
-unfoldable pub padded : List ℕ → OpName
-padded s = record { 0 = s ++ replicate (longest_name - length s) 0; 1 = length s }

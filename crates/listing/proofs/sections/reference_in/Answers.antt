@@ -5,4 +5,4 @@ use Rattle.listing.proofs.sections.reference_in.Goals as goal
 
 pub returns : goal.returns
 returns c =
-    rw (c.set_size_of-set_size.ensures, c.marks_in-mark_ref.ensures, c.form_of-form.ensures) (reference_of_lem _ c.requires.0 c.requires.1)
+    rw (c.set_size_of.ensures, c.marks_in.ensures, c.form_of-form.ensures) (reference_of_lem _ c.requires.0 c.requires.1)

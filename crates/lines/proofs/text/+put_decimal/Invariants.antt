@@ -1,6 +1,0 @@
--- By recursion, as the definition goes. The measure is the number.
--- Assumes nothing.
-use Rattle.lines.proofs.text.+put_decimal.Given as goal
-
-abbrev pub decreases-put_decimal : goal.decreases-put_decimal
-decreases-put_decimal l = l.value
