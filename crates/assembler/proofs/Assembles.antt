@@ -5,6 +5,8 @@ use mathlib.Core.Path.{◌≡◌, sym, ap, ap₂, ◌∙◌, subst}
 use mathlib.Core.Bool.{true, false}
 use mathlib.Core.List.{List}
 use lib.ListN.{length, replicate}
+use Rattle.std.specs.Prelude.{Result, Ok, Err}
+use Rattle.units.specs.declared.reply.LaidOut.{LaidOut}
 use Rattle.units.specs.declared.reply.Refusal.{Refusal}
 use Rattle.units.specs.Replies.{result_full}
 use Rattle.units.specs.Reply.{Reply, refused, refusal_reply}
@@ -14,11 +16,9 @@ use Rattle.slices.specs.Over.{over}
 use Rattle.layout.specs.Passes.{entry}
 use Rattle.layout.specs.Answer.{Laid}
 use Rattle.settling.specs.Settle.{settling, settled_reply}
-use Rattle.settling.specs.declared.Settled.{Settled}
-use Rattle.settling.specs.declared.Settled.TheVariants.{LaidOut, Refused}
 use Rattle.settling.proofs.SettlingLeaves.{refused_table}
 use Rattle.assembler.specs.Emission.{code_of}
-use Rattle.assembler.specs.Assemble.{written, Outcome, refusal, is_full, assembly}
+use Rattle.assembler.specs.Assemble.{written, assembled_reply, Outcome, refusal, is_full, assembly}
 use Rattle.assembler.specs.Demand3.{Demand3}
 use Rattle.assembler.specs.Instructions.{CodePushes}
 use Rattle.assembler.specs.TightAssembly.{AssemblesWithin, AssemblesLeast}
@@ -63,18 +63,19 @@ module _ (w : ℕ) (st : Store) (n : ℕ) (result : List ℕ) (position : ℕ) w
   )
 
   -- what the settling answered, s, as the code has it
-  module _ {s : Settled} (table' : List ℕ) (said : settled_reply s ≡ (settling w n st).reply) (left : table' ≡ (settling w n st).table) where
-    -- 6 to 12, 17, 18
-    pub kept_refused : (r : Refusal) → s ≡ Refused r → Kept (refusal_reply r) table' result
-    kept_refused r e =
+  module _ {s : Result LaidOut Refusal} (table' : List ℕ) (said : settled_reply s ≡ (settling w n st).reply) (left : table' ≡ (settling w n st).table) where
+    -- 6 to 12, 17, 18, which is passed on
+    pub kept_refused : {told : Result LaidOut Refusal} (r : Refusal) → s ≡ Err r → told ≡ Err r → Kept (assembled_reply told) table' result
+    kept_refused r e f =
         let same : (settling w n st).reply ≡ refusal_reply r = sym said ∙ ap settled_reply e in
-        subst (λ (x : List ℕ). Kept (refusal_reply r) x result) (sym (left ∙ refused_table w n st _ _ _ same))
-        (kept (refusal n result (refusal_reply r)) (outcome_refused w st n result position _ _ _ same))
+        subst (λ (x : Result LaidOut Refusal). Kept (assembled_reply x) table' result) (sym f)
+        (subst (λ (x : List ℕ). Kept (refusal_reply r) x result) (sym (left ∙ refused_table w n st _ _ _ same))
+        (kept (refusal n result (refusal_reply r)) (outcome_refused w st n result position _ _ _ same)))
 
     -- laid out
-    pub laid_table : (size k : ℕ) → s ≡ LaidOut size k → LaidBy w n st table' size k
-    laid_table size k e =
-        let same : (settling w n st).reply ≡ written size k = sym said ∙ ap settled_reply e in
+    pub laid_table : (l : LaidOut) → s ≡ Ok l → LaidBy w n st table' l.length l.passes
+    laid_table l e =
+        let same : (settling w n st).reply ≡ written l.length l.passes = sym said ∙ ap settled_reply e in
         ap₂ (λ (r : Reply Laid) (x : List ℕ). record { reply = r; table = x }) same (sym left)
 
   module _ (table : List ℕ) (size k : ℕ) (e : LaidBy w n st table size k) where

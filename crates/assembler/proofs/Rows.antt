@@ -1,20 +1,11 @@
--- Bytes written over a list one part after another, and one part found again in what was written. Assumes nothing.
-use Prim.Native.Nat.{ℕ, zero, suc, ◌+◌, ◌/◌, ◌%◌, ◌<◌}
+-- One part found again in what was written, bytes in a row. Assumes nothing.
+use Prim.Native.Nat.{ℕ, zero, suc, ◌+◌, ◌<◌}
 use native.Mathlib.Omega.{arith}
 use mathlib.Core.Path.{◌≡◌, refl, sym, ◌∙◌, ap}
 use mathlib.Core.List.{List, [], ◌∷◌, ◌++◌, map, append_assoc}
-use lib.ListN.{length, get_or, take, set, length-append}
-use Rattle.units.specs.Numbers.{big_endian}
-use Rattle.units.proofs.BigEndian.{length_big_endian}
-use Rattle.slices.specs.Over.{over}
-use Rattle.slices.proofs.Over.{over_set}
+use lib.ListN.{length, get_or, take, length-append}
 use Rattle.layout.specs.Layout.{total}
 use Rattle.assembler.specs.Emission.{in_a_row}
-
--- the last byte of a number set, and the bytes before it to be written, are the number to be written
-pub over_digit : (old : List ℕ) (i n v : ℕ) → i + n < length old → over (set old (i + n) (v % 256)) i (big_endian n (v / 256)) ≡ over old i (big_endian (suc n) v)
-unfolding big_endian
-over_digit old i n v h = over_set old i n (v % 256) (big_endian n (v / 256)) (length_big_endian n (v / 256)) h
 
 -- part j of a row, where the parts before it end
 pub row_split : (ps : List (List ℕ)) (j : ℕ) → j < length ps

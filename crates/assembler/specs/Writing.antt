@@ -10,16 +10,17 @@ use Rattle.undamaged.specs.Section.{ReadIn}
 use Rattle.slices.specs.Over.{over}
 use Rattle.layout.specs.Passes.{entry}
 use Rattle.settling.specs.SectionWalk.{MarksIn, backward_words}
+use denote.Ref.{at_last}
 use Rattle.assembler.specs.Emission.{opcode, section_bytes}
+use Rattle.assembler.specs.declared.emission.CodeWriter.{CodeWriter}
 
--- there is room in the result for `added` from `at` on
-abbrev pub Fits : List ℕ → ℕ → List ℕ → Type 0
-Fits result at added = at + length added ≤ length result
+-- there is room for `added` from the writer's place on
+abbrev pub Fits : CodeWriter → List ℕ → Type 0
+Fits writer added = writer.at + length added ≤ length writer.code.now
 
--- `added` was written over the result from `at` on, and `next` is the place after it
-pub record Wrote (before : List ℕ) (at : ℕ) (added : List ℕ) (next : ℕ) (after : List ℕ) : Type 0 where
-  pub count : next ≡ at + length added
-  pub result : after ≡ over before at added
+-- the same lent code, with `added` written over it from the writer's place on, and the place after it
+abbrev pub wrote : CodeWriter → List ℕ → CodeWriter
+wrote writer added = record { code = at_last writer.code (over writer.code.now writer.at added); at = writer.at + length added }
 
 -- the bytes of the section that three words are
 abbrev pub words_bytes : List ℕ → List ℕ → StoredSection → List ℕ

@@ -1,120 +1,39 @@
 // Document 01, module 4: the code of the sections, written into the lent result. Called after the settling or after the tests of a table, so
 // every section is readable, every mark is in the table, no delta is backward, and the code fits: a public writer would have to walk the
 // sections once more to find that out.
-ghost use Rattle.std.specs.Prelude.{◌≡◌, ℕ, ◌+◌, ◌*◌, ◌≤◌, ◌<◌, length};
+ghost use Rattle.std.specs.Prelude.{◌≡◌, ℕ, ◌+◌, ◌*◌, ◌≤◌, ◌<◌, [], ◌∷◌, length};
 ghost use Rattle.units.specs.Numbers.{big_endian};
 ghost use Rattle.records.specs.Record.{form_of};
-ghost use Rattle.records.specs.Store.{store_of, words_per_section, words_at};
-ghost use Rattle.records.specs.Sections.{decode};
-ghost use Rattle.undamaged.specs.Section.{span_bytes, SpanIn};
+ghost use Rattle.records.specs.Store.{words_per_section, words_at};
 ghost use Rattle.slices.specs.Over.{over};
 ghost use Rattle.layout.specs.Passes.{entry};
 ghost use Rattle.assembler.specs.Emission.{opcode, code_of};
-ghost use Rattle.settling.specs.SectionWalk.{value_words};
-ghost use Rattle.assembler.specs.Writing.{Fits, Wrote, words_bytes, form_bytes, Writable, WritableReference};
+ghost use Rattle.settling.specs.SectionWalk.{sections_in, value_words};
+ghost use Rattle.assembler.specs.Writing.{Fits, wrote, words_bytes, form_bytes, Writable, WritableReference};
 
-use records::{Assembler, StoredSection, form_of, kind};
-use units::{AsmBytesIdx, BytesSpan, MarkId, form};
+use records::{StoredSection, form_of, kind};
+use undamaged::UndamagedStore;
+use units::{MarkId, form};
+
+// The lent code and the place in it that the next byte goes to.
+#[derive(Drop)]
+pub(crate) struct CodeWriter<'a> {
+    pub(crate) code: &'a mut [u8],
+    pub(crate) at: usize,
+}
 
 // Writes the code of every section, from a position on.
-pub(crate) fn write_code(
-    store: Assembler,
-    bytes: &[u8],
-    words: &[u32],
-    table: &[u32],
-    res: &mut [u8],
-    position: usize,
-)
-    requires sections_in_bounds { words_per_section * store.sections ≤ length words.now }
-    requires by_index { (i : ℕ) → i < store.sections → Writable bytes.now table.now (words_at words_per_section words.now i) }
-    requires fits { Fits res.old position
-        (code_of (entry table.now) (decode words_per_section (store_of store bytes.now words.now))) }
-    ensures { res.new
-        ≡ over res.old position
-        (code_of (entry table.now) (decode words_per_section (store_of store bytes.now words.now))) }
+pub(crate) fn write_code(store: UndamagedStore, table: &[u32], res: &mut [u8], position: usize)
+    requires by_index { (i : ℕ) → i < store.counts.sections
+        → Writable store.bytes.now table.now (words_at words_per_section store.words.now i) }
+    requires fits { position + length (code_of (entry table.now) (sections_in store)) ≤ length res.old }
+    ensures { res.new ≡ over res.old position (code_of (entry table.now) (sections_in store.entry)) }
 {
-    let mut i: u32 = 0;
-    let mut at = position;
-    while i < store.sections {
-        at = write_section(section_words(words, i as usize), bytes, table, res, at);
-        i += 1;
-    }
-}
-
-// The three words of section i. A copy of the reader in `records`, private and so without a test of the index, with which assembly takes
-// 8 to 15 % longer (docs/DECISIONS.md, 49).
-fn section_words(words: &[u32], i: usize) -> StoredSection
-    requires { words_per_section * (i + 1) ≤ length words.now }
-    ensures { result ≡ words_at words_per_section words.now i }
-{
-    let at = Assembler::WORDS * i;
-    StoredSection {
-        kind: words[at],
-        first: words[at + 1],
-        second: words[at + 2],
-    }
-}
-
-// Writes one section; the position after it.
-fn write_section(
-    section: StoredSection,
-    bytes: &[u8],
-    table: &[u32],
-    res: &mut [u8],
-    at: usize,
-) -> usize
-    requires writable { Writable bytes.now table.now section }
-    requires fits { Fits res.old at (words_bytes table.now bytes.now section) }
-    ensures { Wrote res.old at
-        (words_bytes table.now bytes.now section) result res.new }
-{
-    if section.kind == kind::MARK {
-        return at;
-    }
-    if section.kind < kind::DIRECT {
-        let span = BytesSpan {
-            start: AsmBytesIdx(section.first),
-            end: AsmBytesIdx(section.second),
-        };
-        return write_span(span, bytes, res, at);
-    }
-    write_reference(section, table, res, at)
-}
-
-// Copies the bytes of a span; the position after them. A loop of its own: `slices::write_bytes` would test the room at each section.
-fn write_span(span: BytesSpan, bytes: &[u8], res: &mut [u8], at: usize) -> usize
-    requires span_in { SpanIn (length bytes.now) span }
-    requires fits { Fits res.old at (span_bytes bytes.now span) }
-    ensures { Wrote res.old at (span_bytes bytes.now span) result res.new }
-{
-    let end = span.end.0 as usize;
-    let mut i = span.start.0 as usize;
-    let mut next = at;
-    while i < end {
-        res[next] = bytes[i];
-        next += 1;
-        i += 1;
-    }
-    next
-}
-
-// Writes a reference: 5f if pushed, unsized and 0, else the opcode if pushed, then the value; the position after it.
-fn write_reference(section: StoredSection, table: &[u32], res: &mut [u8], at: usize) -> usize
-    requires writable_reference { WritableReference table.now section }
-    requires fits { Fits res.old at (form_bytes (form_of section) (value_words table.now section)) }
-    ensures { Wrote res.old at
-        (form_bytes (form_of section) (value_words table.now section)) result res.new }
-{
-    let value = value_of(section, table);
-    let form = form_of(section);
-    if form::is_push_zero(form, value) {
-        res[at] = evm::op::PUSH0;
-        return at + 1;
-    }
-    let count = form::byte_count(form, value);
-    let start = write_opcode(form::PUSHED <= form, count, res, at);
-    write_value(count, value, res, start);
-    start + (count as usize)
+    let mut writer = CodeWriter {
+        code: res,
+        at: position,
+    };
+    writer.write_sections(store, table);
 }
 
 // A reference's value by the table.
@@ -130,7 +49,7 @@ fn value_of(section: StoredSection, table: &[u32]) -> u32
     end - start
 }
 
-// A mark's entry of the table. Private for the same reason as the reader of a section's words.
+// A mark's entry of the table.
 fn entry_of(table: &[u32], mark: MarkId) -> u32
     requires { «mark».0 < length table.now }
     ensures { result ≡ entry table.now «mark».0 }
@@ -139,65 +58,100 @@ fn entry_of(table: &[u32], mark: MarkId) -> u32
     table[at]
 }
 
-// If pushed, the opcode; the position after it.
-fn write_opcode(pushed: bool, count: u32, res: &mut [u8], at: usize) -> usize
-    requires { (count ≤ 4) × Fits res.old at (opcode pushed count) }
-    ensures { Wrote res.old at (opcode pushed count) result res.new }
-{
-    if pushed {
-        res[at] = evm::op::PUSH0 + (count as u8);
-        at + 1
-    } else {
-        at
+impl<'a> CodeWriter<'a> {
+    // Writes every section.
+    fn write_sections(&mut self, store: UndamagedStore, table: &[u32])
+        requires by_index { (i : ℕ) → i < store.counts.sections
+            → Writable store.bytes.now table.now (words_at words_per_section store.words.now i) }
+        requires fits { Fits self.old (code_of (entry table.now) (sections_in store)) }
+        ensures { self.new ≡ wrote self.old (code_of (entry table.now) (sections_in store.entry)) }
+    {
+        for i in 0..store.counts.sections {
+            self.write_section(store.section(i), store.bytes, table);
+        }
     }
-}
 
-// A value in one to four bytes, highest first; each function writes the lowest byte and leaves the others to the next.
-fn write_value(count: u32, value: u32, res: &mut [u8], at: usize)
-    requires { (count ≤ 4) × (at + count ≤ length res.old) }
-    ensures { res.new ≡ over res.old at (big_endian count value) }
-{
-    if count == 1 {
-        return write_one(value, res, at);
+    // Writes one section.
+    fn write_section(&mut self, section: StoredSection, bytes: &[u8], table: &[u32])
+        requires writable { Writable bytes.now table.now section }
+        requires fits { Fits self.old (words_bytes table.now bytes.now section) }
+        ensures { self.new ≡ wrote self.old (words_bytes table.now bytes.now section) }
+    {
+        if section.kind == kind::MARK {
+            return;
+        }
+        if section.kind < kind::DIRECT {
+            let start = section.first as usize;
+            let end = section.second as usize;
+            return self.write_bytes(&bytes[start..end]);
+        }
+        self.write_reference(section, table);
     }
-    if count == 2 {
-        return write_two(value, res, at);
+
+    // Writes a reference: 5f if pushed, unsized and 0, else the opcode if pushed, then the value.
+    fn write_reference(&mut self, section: StoredSection, table: &[u32])
+        requires writable_reference { WritableReference table.now section }
+        requires fits { Fits self.old (form_bytes (form_of section) (value_words table.now section)) }
+        ensures { self.new ≡ wrote self.old (form_bytes (form_of section) (value_words table.now section)) }
+    {
+        let value = value_of(section, table);
+        let form = form_of(section);
+        if form::is_push_zero(form, value) {
+            return self.write_byte(evm::op::PUSH0);
+        }
+        let count = form::byte_count(form, value);
+        self.write_opcode(form::PUSHED <= form, count);
+        self.write_value(count, value);
     }
-    if count == 3 {
-        return write_three(value, res, at);
+
+    // If pushed, the opcode.
+    fn write_opcode(&mut self, pushed: bool, count: u32)
+        requires { (count ≤ 4) × Fits self.old (opcode pushed count) }
+        ensures { self.new ≡ wrote self.old (opcode pushed count) }
+    {
+        if pushed {
+            self.write_byte(evm::op::PUSH0 + (count as u8));
+        }
     }
-    if count == 4 {
-        write_four(value, res, at);
+
+    // Writes a value in one to four bytes, highest first.
+    fn write_value(&mut self, count: u32, value: u32)
+        requires { (count ≤ 4) × Fits self.old (big_endian count value) }
+        ensures { self.new ≡ wrote self.old (big_endian count value) }
+    {
+        match count {
+            1 => self.write_last::<1>(value),
+            2 => self.write_last::<2>(value),
+            3 => self.write_last::<3>(value),
+            4 => self.write_last::<4>(value),
+            _ => {}
+        }
     }
-}
 
-fn write_one(value: u32, res: &mut [u8], at: usize)
-    requires { at + 1 ≤ length res.old }
-    ensures { res.new ≡ over res.old at (big_endian 1 value) }
-{
-    res[at] = (value % 256) as u8;
-}
+    // Writes the last of a value's four bytes, so many as the compiler knows: a copy of any other count is a call of `memcpy`.
+    fn write_last<const COUNT: usize>(&mut self, value: u32)
+        requires { (COUNT ≤ 4) × Fits self.old (big_endian COUNT value) }
+        ensures { self.new ≡ wrote self.old (big_endian COUNT value) }
+    {
+        let bytes = value.to_be_bytes();
+        self.write_bytes(&bytes[4 - COUNT..]);
+    }
 
-fn write_two(value: u32, res: &mut [u8], at: usize)
-    requires { at + 2 ≤ length res.old }
-    ensures { res.new ≡ over res.old at (big_endian 2 value) }
-{
-    res[at + 1] = (value % 256) as u8;
-    write_one(value / 256, res, at);
-}
+    // Copies bytes. A loop of its own: `slices::write_bytes` would test the room at each section.
+    fn write_bytes(&mut self, bytes: &[u8])
+        requires { Fits self.old bytes.now }
+        ensures { self.new ≡ wrote self.old bytes.now }
+    {
+        let end = self.at + bytes.len();
+        self.code[self.at..end].copy_from_slice(bytes);
+        self.at = end;
+    }
 
-fn write_three(value: u32, res: &mut [u8], at: usize)
-    requires { at + 3 ≤ length res.old }
-    ensures { res.new ≡ over res.old at (big_endian 3 value) }
-{
-    res[at + 2] = (value % 256) as u8;
-    write_two(value / 256, res, at);
-}
-
-fn write_four(value: u32, res: &mut [u8], at: usize)
-    requires { at + 4 ≤ length res.old }
-    ensures { res.new ≡ over res.old at (big_endian 4 value) }
-{
-    res[at + 3] = (value % 256) as u8;
-    write_three(value / 256, res, at);
+    fn write_byte(&mut self, byte: u8)
+        requires { Fits self.old (byte ∷ []) }
+        ensures { self.new ≡ wrote self.old (byte ∷ []) }
+    {
+        self.code[self.at] = byte;
+        self.at += 1;
+    }
 }

@@ -15,17 +15,10 @@ ghost use Rattle.assembler.specs.Pair.{WritesDemand3, WritesEnough};
 
 use emission::write_code;
 use records::Assembler;
-use settling::{Settled, clear, settle};
+use settling::{clear, settle};
 use tables::check_table;
-use units::Refusal;
-
-// Written: the code's length and the passes made; or a refusal, with the result unchanged: of assembly 6 to 13, 17 or 18, with the table
-// all 0; of a write 6 to 10, 12, 13 or 16 to 18.
-#[derive(Clone, Copy)]
-pub enum Assembled {
-    Written { length: u32, passes: u32 },
-    Refused(Refusal),
-}
+use undamaged::UndamagedStore;
+use units::{LaidOut, Refusal};
 
 // Settles the store's sections and writes their code into the result from the position on. Refusals: 6 damaged, 7 short table,
 // 8 a direct reference's mark unplaced or 17 a delta's start or 18 its end, whichever section comes first, 9 placed apart, 10 too narrow,
@@ -37,7 +30,7 @@ pub fn assemble(
     table: &mut [u32],
     res: &mut [u8],
     position: usize,
-) -> Assembled
+) -> Result<LaidOut, Refusal>
     ensures reply { assembled_reply result
         ≡ (assembly words_per_section (store_of store bytes.now words.now)
         (length table.old) res.old position).reply }
@@ -57,18 +50,20 @@ pub fn assemble(
     ensures least { AssemblesLeast words_per_section (store_of store bytes.now words.now)
         (assembled_reply result) table.new }
 {
-    let settled = settle(store, bytes, words, table);
-    match settled {
-        Settled::Refused(refusal) => Assembled::Refused(refusal),
-        Settled::LaidOut { length, passes } => {
-            if is_full(res.len(), position, length) {
-                clear(table);
-                return Assembled::Refused(Refusal::ResultFull { passes });
-            }
-            write_code(store, bytes, words, table, res, position);
-            Assembled::Written { length, passes }
-        }
+    let laid = settle(store, bytes, words, table)?;
+    if is_full(res.len(), position, laid.length) {
+        clear(table);
+        return Err(Refusal::ResultFull {
+            passes: laid.passes,
+        });
     }
+    let store = UndamagedStore {
+        counts: store,
+        bytes,
+        words,
+    };
+    write_code(store, table, res, position);
+    Ok(laid)
 }
 
 // Writes a store's code into the result from the position on, by a table that may come from anyone and is only read. Refusals: 6 damaged,
@@ -81,7 +76,7 @@ pub fn write(
     table: &[u32],
     res: &mut [u8],
     position: usize,
-) -> Assembled
+) -> Result<LaidOut, Refusal>
     ensures reply { assembled_reply result
         ≡ (write_by words_per_section (store_of store bytes.now words.now)
         table.now res.old position).reply }
@@ -99,16 +94,19 @@ pub fn write(
     ensures least { WritesLeast words_per_section (store_of store bytes.now words.now)
         table.now (assembled_reply result) }
 {
-    match check_table(store, bytes, words, table) {
-        Settled::Refused(refusal) => Assembled::Refused(refusal),
-        Settled::LaidOut { length, passes } => {
-            if is_full(res.len(), position, length) {
-                return Assembled::Refused(Refusal::ResultFull { passes });
-            }
-            write_code(store, bytes, words, table, res, position);
-            Assembled::Written { length, passes }
-        }
+    let laid = check_table(store, bytes, words, table)?;
+    if is_full(res.len(), position, laid.length) {
+        return Err(Refusal::ResultFull {
+            passes: laid.passes,
+        });
     }
+    let store = UndamagedStore {
+        counts: store,
+        bytes,
+        words,
+    };
+    write_code(store, table, res, position);
+    Ok(laid)
 }
 
 // 13: the position is past the result's end, or the length is above what is left.

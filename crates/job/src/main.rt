@@ -5,29 +5,13 @@
 
 ghost use Rattle.std.specs.Prelude.{◌≡◌, ◌+◌, ◌≤◌, ℕ, List, IfSome, OnErr, OnOk, length, take};
 ghost use Rattle.std.specs.Io.KnownBytes.{Appends, Consumes};
-ghost use Rattle.job_steps.specs.JobFormat.{max_job};
 ghost use Rattle.job_text.specs.Printed.{printed};
 
 use job_steps::MAX_JOB;
 use job_text::{TEXT_BYTES, write_text};
-use jobs::JobRun;
-use reads::read_full;
+use reads::{filled, read_full};
 use std::io;
 use std::io::{Read, Write};
-
-// Room for one byte more than the longest job, so that a longer one is seen.
-fn input_buffer() -> [u8; MAX_JOB + 1]
-    ensures { max_job + 1 ≡ length result }
-{
-    [0u8; MAX_JOB + 1]
-}
-
-// Room for the longest text.
-fn text_buffer() -> [u8; TEXT_BYTES]
-    ensures { 131078 ≡ length result }
-{
-    [0u8; TEXT_BYTES]
-}
 
 // Writes a job's text; with room for the longest one no buffer is too short (`prints`, job_text JobAlone).
 fn print_job<W: Write>(out: &mut W, job: &[u8], text: &mut [u8]) -> io::Result<()>
@@ -37,10 +21,10 @@ fn print_job<W: Write>(out: &mut W, job: &[u8], text: &mut [u8]) -> io::Result<(
     // Also where a write fails, of which std doesn't say how much was taken.
     ensures held { take (length (printed job.now)) text.new ≡ printed job.now }
 {
-    let JobRun::Ran { reply, text_length } = write_text(job, text) else {
+    let Ok(ran) = write_text(job, text) else {
         return Ok(());
     };
-    out.write_all(&text[..text_length])
+    out.write_all(&text[..ran.text_length])
 }
 
 // The text of the job that the whole input is. No more is read than shows that it is longer than any job.
@@ -51,9 +35,10 @@ fn run<R: Read, W: Write>(input: &mut R, out: &mut W) -> io::Result<()>
     // Where a read or a write fails: what was read is what the input begins with.
     ensures failed { OnErr result ((bytes : List ℕ) × Consumes (R.remaining input.old) (R.remaining input.new) bytes) }
 {
-    let mut job = input_buffer();
+    // One byte more than the longest job has, so that a longer one is seen.
+    let mut job: [u8; MAX_JOB + 1] = filled(0);
     let n = read_full(input, &mut job)?;
-    let mut text = text_buffer();
+    let mut text: [u8; TEXT_BYTES] = filled(0);
     print_job(out, &job[..n], &mut text)
 }
 

@@ -1,11 +1,15 @@
 -- A step by its kind: whether it is listed, and the call that it is. Assumes nothing.
-use Prim.Native.Nat.{ℕ, ◌-◌, ◌≤◌}
-use mathlib.Core.Path.{◌≡◌, refl, sym, ap, ◌∙◌, subst}
-use mathlib.Core.Bool.{Bool, true, false, not, ◌&&◌, true≢false, false≢true, and-eq-true_iff as and-true}
+use Prim.Native.Nat.{ℕ, ◌-◌, ◌≤◌, ◌<◌}
+use mathlib.Core.Path.{◌≡◌, refl, sym, ap, ap₂, ◌∙◌, subst}
+use mathlib.Core.Bool.{Bool, true, false, ◌&&◌, true≢false, false≢true, and-false}
+use mathlib.Core.Logic.{◌⊎◌, inl, inr}
 use mathlib.Core.List.{List, []}
 use lib.Dec.{leb, eqb}
 use lib.Seq.{slice}
-use borrow.Author.Tests.{ne_eqb, leb-true}
+use borrow.Author.Tests.{ne_eqb, le-leb, lt-leb}
+use Rattle.std.specs.Prelude.{IfSome, is_some}
+use Rattle.std.specs.Bool.{then_some}
+use Rattle.std.specs.declared.option.Option.{Option}
 use Rattle.units.specs.Reply.{accepted, refused}
 use Rattle.slices.specs.Over.{over}
 use Rattle.slices.proofs.Tests.{cond_case}
@@ -52,38 +56,39 @@ module _ (count : ℕ) (s : Step) where
       let direct = ne_eqb s.kind direct_step o.not_direct in
       rw (mark, op, bytes, direct)
 
--- of two tests, the second where the first passes, and the first where it fails
+-- of two tests, the second where the first passes, and false where the first fails
 pub second_test : (x a b : Bool) → x ≡ a && b → a ≡ true → b ≡ x
 second_test x true b e h = sym e
 second_test x false b e h = absurd (false≢true h)
 
-pub first_test : (x a b : Bool) → x ≡ a && b → a ≡ false → a ≡ x
+pub first_test : (x a b : Bool) → x ≡ a && b → a ≡ false → false ≡ x
 first_test x false b e h = sym e
 first_test x true b e h = absurd (true≢false h)
 
--- a test that is turned round
-pub denied : (b : Bool) → not b ≡ true → b ≡ false
-denied false e = refl
-denied true e = sym e
+-- an answer that a test decides
+some_test : {X : Type 0} (b : Bool) (x : X) → is_some (then_some b x) ≡ b
+some_test true x = refl
+some_test false x = refl
 
-pub granted : (b : Bool) → not b ≡ false → b ≡ true
-granted true e = refl
-granted false e = sym e
+if_test : {X : Type 0} (b : Bool) (x : X) (P : X → Type 0) → P x → IfSome (then_some b x) P
+if_test true x P p = p
+if_test false x P p = tt
 
--- ---- what is known of a listed step
+module _ {X : Type 0} (r : Option X) (b : Bool) (x : X) (e : r ≡ then_some b x) where
+  pub test_listed : is_some r ≡ b
+  test_listed = ap is_some e ∙ some_test b x
 
-module _ (count : ℕ) (s : Step) (listed : is_listed count s ≡ true) where
-  pub op_fits : s.kind ≡ op_step → s.first ≤ 255
-  op_fits e = leb-true s.first 255 ((and-true (leb s.first 255) (eqb s.second 0)).0 (sym (listed_op count s e) ∙ listed)).0
+  pub test_call : (P : X → Type 0) → P x → IfSome r P
+  test_call P p = subst (λ (o : Option X). IfSome o P) (sym e) (if_test b x P p)
 
-  pub data_within : s.kind ≡ data_step → (s.first ≤ s.second) × (s.second ≤ count)
-  data_within e =
-      let both = (and-true (leb s.first s.second) (leb s.second count)).0 (sym (listed_data count s e) ∙ listed) in
-      (leb-true s.first s.second both.0, leb-true s.second count both.1)
+-- pool data is listed exactly if the pool has it
+module _ (count : ℕ) (s : Step) (kind : s.kind ≡ data_step) where
+  pub data_listed : (s.first ≤ s.second) × (s.second ≤ count) → true ≡ is_listed count s
+  data_listed within = sym (listed_data count s kind ∙ ap₂ (λ (a b : Bool). a && b) (le-leb s.first s.second within.0) (le-leb s.second count within.1))
 
-  pub delta_kind_lem : IsOther s.kind → delta_step ≤ s.kind
-  delta_kind_lem o =
-      leb-true delta_step s.kind ((and-true (leb delta_step s.kind) (is_form (s.kind - delta_step))).0 (sym (listed_other count s o) ∙ listed)).0
+  pub data_unlisted : (s.second < s.first) ⊎ (count < s.second) → false ≡ is_listed count s
+  data_unlisted (inl l) = sym (listed_data count s kind ∙ ap (λ (a : Bool). a && leb s.second count) (lt-leb s.first s.second l))
+  data_unlisted (inr l) = sym (listed_data count s kind ∙ ap (λ (b : Bool). leb s.first s.second && b) (lt-leb s.second count l) ∙ and-false (leb s.first s.second))
 
 -- ---- the call that it is
 
@@ -123,7 +128,8 @@ section_leaves w x st none =
     (λ _. ap (over st.bytes st.stored_bytes) none ∙ over_nothing st.bytes st.stored_bytes)
     (λ _. ap (over st.bytes st.stored_bytes) none ∙ over_nothing st.bytes st.stored_bytes)
 
-bytes_left : (p : Push) (st : Store) → bytes_of (added p) ≡ [] → (push_after words_per_section p st).bytes ≡ st.bytes
+-- so a call that adds one leaves them
+pub bytes_left : (p : Push) (st : Store) → bytes_of (added p) ≡ [] → (push_after words_per_section p st).bytes ≡ st.bytes
 bytes_left p st none = go (push_reply words_per_section p st) refl
   where
     go : (r : BuiltReply) → push_reply words_per_section p st ≡ r → (push_after words_per_section p st).bytes ≡ st.bytes
@@ -135,12 +141,6 @@ abbrev pub Answers : Push → Store → BuiltReply → List ℕ → List ℕ →
 Answers p st r bytes words =
     (r ≡ push_reply words_per_section p st) × ((bytes ≡ (push_after words_per_section p st).bytes) × (words ≡ (push_after words_per_section p st).words))
 
-module _ (st : Store) {p q : Push} {r : BuiltReply} {words : List ℕ} where
-  -- of the call that a step is
-  pub as_step : {bytes : List ℕ} → p ≡ q → Answers p st r bytes words → Answers q st r bytes words
-  as_step {bytes} e a = subst (λ (x : Push). Answers x st r bytes words) e a
-
-  -- a call that adds no bytes leaves them as they are
-  pub as_step_alone : p ≡ q → bytes_of (added p) ≡ [] → (r ≡ push_reply words_per_section p st) × (words ≡ (push_after words_per_section p st).words)
-      → Answers q st r st.bytes words
-  as_step_alone e none a = as_step e (a.0, (sym (bytes_left p st none), a.1))
+-- of the call that a step is
+pub as_step : (st : Store) {p q : Push} {r : BuiltReply} {bytes words : List ℕ} → p ≡ q → Answers p st r bytes words → Answers q st r bytes words
+as_step st {r = r} {bytes = bytes} {words = words} e a = subst (λ (x : Push). Answers x st r bytes words) e a

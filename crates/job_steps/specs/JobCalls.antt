@@ -7,11 +7,20 @@ use Rattle.records.specs.Store.{Store}
 use Rattle.calls.specs.Calls.{Push, push_mark, push_op_byte, push_data, push_reference, push_reply, push_after, if_stored}
 use Rattle.numbers.specs.Forms.{direct, delta, formed}
 use Rattle.job_steps.specs.declared.read.Step.{Step}
-use Rattle.job_steps.specs.JobFormat.{pool, steps, mark_step, op_step, data_step, direct_step, delta_step}
+use Rattle.job_steps.specs.declared.validate.Call.{Call}
+use Rattle.job_steps.specs.declared.validate.Call.TheVariants.{Mark, OpByte, Data, Reference}
+use Rattle.job_steps.specs.JobFormat.{pool, steps, step_of, mark_step, op_step, data_step, direct_step, delta_step}
 
 -- 'Form is the set size, 0 if unsized, plus 8 if pushed.' These marks in a form
 abbrev pub in_form : MarkReference → ℕ → Push
 in_form m form = push_reference (formed m (set_size_of (form % 8)) (leb 8 form))
+
+-- the call that a listed step was read as
+abbrev pub push_of : Call → Push
+push_of (Mark mark) = push_mark mark.0
+push_of (OpByte byte) = push_op_byte byte
+push_of (Data bytes) = push_data bytes.now
+push_of (Reference r) = push_reference r
 
 -- the call that a listed step is: a mark, an op byte, the pool bytes from start up to end as data, a direct reference, a delta
 unfoldable pub step_call : List ℕ → Step → Push
@@ -25,6 +34,10 @@ step_call bytes s =
 -- the calls that a job's steps are, in order
 abbrev pub job_calls : List ℕ → List Push
 job_calls job = map (step_call (pool job)) (steps job)
+
+-- the calls of steps of nine bytes each
+abbrev pub calls_of : List ℕ → List (List ℕ) → List Push
+calls_of bytes steps = map (step_call bytes) (map step_of steps)
 
 -- 'The first refused call ends the job': the store after calls made in turn, up to the first that is refused
 unfoldable pub built_by : ℕ → List Push → Store → Store

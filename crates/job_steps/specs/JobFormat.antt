@@ -35,6 +35,10 @@ step_bytes = 9
 abbrev pub step_at : List ℕ → ℕ → Step
 step_at job at = record { kind = get_or job at 0; first = number_at job (at + 1); second = number_at job (at + 5) }
 
+-- the step that nine bytes are
+abbrev pub step_of : List ℕ → Step
+step_of bytes = step_at bytes 0
+
 -- n steps, one after another, the first at `at`
 unfoldable pub steps_from : List ℕ → ℕ → ℕ → List Step
 steps_from job zero at = []

@@ -1,24 +1,16 @@
-// A job's bytes: numbers of four bytes, highest first, and steps of nine.
-ghost use Rattle.std.specs.Prelude.{◌≡◌, ◌+◌, ◌≤◌, length};
-ghost use Rattle.std.proofs.Math.Seq.{slice};
+// A job's bytes: its pool and its steps, each after its count. A count or a field is four bytes, highest first; a step is nine.
+ghost use Rattle.std.specs.Prelude.{◌≡◌, IfSome, is_some, map};
 ghost use Rattle.units.specs.Numbers.{number};
-ghost use Rattle.job_steps.specs.JobFormat.{number_at, step_at};
-
-// A count or a field of a step.
-pub(crate) const NUMBER_BYTES: usize = 4;
+ghost use Rattle.job_steps.specs.JobFormat.{pool, steps, step_of, is_whole};
 
 pub(crate) const STEP_BYTES: usize = 9;
 
-// The kinds of a step. That of a delta is 32 plus its form.
-pub(crate) const MARK: u8 = 1;
-
-pub(crate) const OP: u8 = 2;
-
-pub(crate) const DATA: u8 = 3;
-
-pub(crate) const DIRECT: u8 = 4;
-
-pub(crate) const DELTA: u8 = 32;
+// A job's parts.
+#[derive(Clone, Copy)]
+pub(crate) struct Parts<'a> {
+    pub(crate) pool: &'a [u8],
+    pub(crate) steps: &'a [[u8; STEP_BYTES]],
+}
 
 // A kind and two numbers.
 #[derive(Clone, Copy)]
@@ -28,33 +20,36 @@ pub(crate) struct Step {
     pub(crate) second: u32,
 }
 
-// The number in the four bytes from `at` on.
-pub(crate) fn number_at(job: &[u8], at: usize) -> u32
-    requires { at + 4 ≤ length job.now }
-    ensures { result ≡ number_at job.now at }
+// The number that four bytes are.
+fn number(bytes: [u8; 4]) -> u32
+    ensures { result ≡ number bytes }
 {
-    let high = pair_at(job, at);
-    let low = pair_at(job, at + 2);
-    high * 65536 + low
+    u32::from_be_bytes(bytes)
 }
 
-// Two bytes, the higher first.
-fn pair_at(job: &[u8], at: usize) -> u32
-    requires { at + 2 ≤ length job.now }
-    ensures value { result ≡ number (slice at (at + 2) job.now) }
-    ensures upper_bound { result ≤ 65535 }
+// The parts of a job whose counts, pool and steps are the whole of it.
+pub(crate) fn whole_parts(job: &[u8]) -> Option<Parts<'_>>
+    ensures whole { is_some result ≡ is_whole job.now }
+    ensures parts { IfSome result (λ p. (p.pool.now ≡ pool job.now) × (map step_of p.steps.now ≡ steps job.now)) }
 {
-    (job[at] as u32) * 256 + (job[at + 1] as u32)
+    let (pool_count, rest) = job.split_first_chunk::<4>()?;
+    let (pool, rest) = rest.split_at_checked(number(*pool_count) as usize)?;
+    let (step_count, rest) = rest.split_first_chunk::<4>()?;
+    let (steps, left) = rest.as_chunks::<STEP_BYTES>();
+    if left.len() != 0 || steps.len() != number(*step_count) as usize {
+        return None;
+    }
+    Some(Parts { pool, steps })
 }
 
-// The step that begins at `at`.
-pub(crate) fn step_at(job: &[u8], at: usize) -> Step
-    requires { at + 9 ≤ length job.now }
-    ensures { result ≡ step_at job.now at }
+// The step that nine bytes are.
+pub(crate) fn step_of(bytes: &[u8; STEP_BYTES]) -> Step
+    ensures { result ≡ step_of bytes.now }
 {
+    let [kind, a, b, c, d, e, f, g, h] = *bytes;
     Step {
-        kind: job[at],
-        first: number_at(job, at + 1),
-        second: number_at(job, at + 1 + NUMBER_BYTES),
+        kind,
+        first: number([a, b, c, d]),
+        second: number([e, f, g, h]),
     }
 }

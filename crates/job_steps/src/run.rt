@@ -1,113 +1,59 @@
 // The steps of a job, each as its call, up to the first that is refused.
-ghost use Rattle.std.specs.Prelude.{◌≡◌, true, ◌+◌, length};
+ghost use Rattle.std.specs.Prelude.{◌≡◌, true, length, map};
 ghost use Rattle.records.specs.Store.{store_of, empty_counts, words_per_section};
 ghost use Rattle.calls.specs.Calls.{push_reply, push_after, all_reply};
 ghost use Rattle.store.specs.Built.{built_reply};
-ghost use Rattle.job_steps.specs.JobFormat.{is_listed, is_job};
-ghost use Rattle.job_steps.specs.JobCalls.{in_form, step_call, job_calls, built_by};
+ghost use Rattle.job_steps.specs.JobFormat.{all_listed, step_of};
+ghost use Rattle.job_steps.specs.JobBuild.{job_built_reply};
+ghost use Rattle.job_steps.specs.JobCalls.{push_of, calls_of, built_by};
 
-use crate::read::{
-    DATA, DELTA, DIRECT, MARK, NUMBER_BYTES, OP, STEP_BYTES, Step, number_at, step_at,
-};
-use numbers::formed;
+use crate::JobError;
+use crate::read::{Parts, step_of};
+use crate::validate::{Call, call_of};
 use records::Assembler;
 use store::{Built, push_data, push_mark, push_op_byte, push_reference};
-use units::{MarkId, MarkReference, MarkSpan};
 
-// A reference to these marks in a form.
-fn refer(
-    store: Assembler,
-    mark_ref: MarkReference,
-    form: u32,
-    bytes: &[u8],
-    words: &mut [u32],
-) -> Built
-    ensures result_value { built_reply result ≡ push_reply words_per_section (in_form mark_ref form)
-        (store_of store bytes.now words.old) }
-    ensures words_after { words.new ≡ (push_after words_per_section (in_form mark_ref form)
-        (store_of store bytes.now words.old)).words }
-{
-    push_reference(store, bytes, words, formed(mark_ref, form))
-}
-
-// The call that a listed step is.
-fn take_step(
-    store: Assembler,
-    step: Step,
-    pool: &[u8],
-    bytes: &mut [u8],
-    words: &mut [u32],
-) -> Built
-    requires { is_listed (length pool.now) step ≡ true }
-    ensures result_value { built_reply result ≡ push_reply words_per_section (step_call pool.now step)
+// Makes a call.
+fn make_call(call: Call<'_>, store: Assembler, bytes: &mut [u8], words: &mut [u32]) -> Built
+    ensures reply { built_reply result ≡ push_reply words_per_section (push_of call.entry)
         (store_of store bytes.old words.old) }
-    ensures bytes_after { bytes.new ≡ (push_after words_per_section (step_call pool.now step)
+    ensures bytes { bytes.new ≡ (push_after words_per_section (push_of call.entry)
         (store_of store bytes.old words.old)).bytes }
-    ensures words_after { words.new ≡ (push_after words_per_section (step_call pool.now step)
+    ensures words { words.new ≡ (push_after words_per_section (push_of call.entry)
         (store_of store bytes.old words.old)).words }
 {
-    let kind = step.kind;
-    let first = step.first;
-    let second = step.second;
-    if kind == MARK {
-        return push_mark(store, bytes, words, MarkId(first));
+    match call {
+        Call::Mark(mark) => push_mark(store, bytes, words, mark),
+        Call::OpByte(byte) => push_op_byte(store, bytes, words, byte),
+        Call::Data(data) => push_data(store, bytes, words, data),
+        Call::Reference(reference) => push_reference(store, bytes, words, reference),
     }
-    if kind == OP {
-        return push_op_byte(store, bytes, words, first as u8);
-    }
-    if kind == DATA {
-        return push_data(store, bytes, words, &pool[first as usize..second as usize]);
-    }
-    if kind == DIRECT {
-        return refer(
-            store,
-            MarkReference::Direct(MarkId(first)),
-            second,
-            bytes,
-            words,
-        );
-    }
-    let span = MarkSpan {
-        start: MarkId(first),
-        end: MarkId(second),
-    };
-    refer(
-        store,
-        MarkReference::Delta(span),
-        (kind - DELTA) as u32,
-        bytes,
-        words,
-    )
 }
 
 // The steps of a job, in turn, on an empty store.
-pub(crate) fn run_steps(job: &[u8], bytes: &mut [u8], words: &mut [u32]) -> Built
-    requires { is_job job.now ≡ true }
-    ensures result_value { built_reply result ≡ all_reply words_per_section (job_calls job.now)
+pub(crate) fn run_steps(
+    job: Parts<'_>,
+    bytes: &mut [u8],
+    words: &mut [u32],
+) -> Result<Assembler, JobError>
+    requires { all_listed (length job.pool.now) (map step_of job.steps.now) ≡ true }
+    ensures reply { job_built_reply result ≡ all_reply words_per_section (calls_of job.entry.pool.now job.entry.steps.now)
         (store_of empty_counts bytes.old words.old) }
-    ensures bytes_after { bytes.new ≡ (built_by words_per_section (job_calls job.now)
+    ensures bytes { bytes.new ≡ (built_by words_per_section (calls_of job.entry.pool.now job.entry.steps.now)
         (store_of empty_counts bytes.old words.old)).bytes }
-    ensures words_after { words.new ≡ (built_by words_per_section (job_calls job.now)
+    ensures words { words.new ≡ (built_by words_per_section (calls_of job.entry.pool.now job.entry.steps.now)
         (store_of empty_counts bytes.old words.old)).words }
 {
-    let pool_end = NUMBER_BYTES + number_at(job, 0) as usize;
-    let mut at = pool_end + NUMBER_BYTES;
-    let mut left = number_at(job, pool_end);
     let mut store = Assembler::new();
-    while left > 0 {
-        let built = take_step(
-            store,
-            step_at(job, at),
-            &job[NUMBER_BYTES..pool_end],
-            bytes,
-            words,
-        );
-        let Built::Stored(next) = built else {
-            return built;
+    for step in job.steps {
+        // No step is unlisted: all were tested before the first call.
+        let Some(call) = call_of(step_of(step), job.pool) else {
+            return Err(JobError::BadJob);
         };
-        store = next;
-        at += STEP_BYTES;
-        left -= 1;
+        match make_call(call, store, bytes, words) {
+            Built::Stored(next) => store = next,
+            Built::Refused(refusal) => return Err(JobError::Refused(refusal)),
+        }
     }
-    Built::Stored(store)
+    Ok(store)
 }

@@ -1,79 +1,95 @@
 // Whether bytes are a job. All that makes them 15 is found here, before any call.
-ghost use Rattle.std.specs.Prelude.{◌≡◌, true, ◌+◌, ◌*◌, ◌≤◌, length};
-ghost use Rattle.job_steps.specs.JobFormat.{is_listed, all_listed, steps_from, is_whole, is_job};
+ghost use Rattle.std.specs.Prelude.{◌≡◌, IfSome, is_some, length, map};
+ghost use Rattle.std.specs.List.{list_all};
+ghost use Rattle.job_steps.specs.JobFormat.{is_listed, is_job, pool, step_of, steps};
+ghost use Rattle.job_steps.specs.JobCalls.{in_form, push_of, step_call};
+ghost use Rattle.numbers.specs.Forms.{is_form};
 
-use crate::read::{
-    DATA, DELTA, DIRECT, MARK, NUMBER_BYTES, OP, STEP_BYTES, Step, number_at, step_at,
-};
-use numbers::is_form;
+use crate::read::{Parts, STEP_BYTES, Step, step_of, whole_parts};
+use numbers::{formed, is_form};
+use units::{AsmReference, MarkId, MarkReference, MarkSpan};
 
 // The longest job.
 pub const MAX_JOB: usize = 32768;
 
-// Both counts.
-const COUNTS: usize = 2 * NUMBER_BYTES;
+// The kinds of a step. That of a delta is 32 plus its form.
+const MARK: u8 = 1;
 
-const MAX_BYTE: u32 = 255;
+const OP: u8 = 2;
 
-// A listed kind with listed fields, with so many pool bytes.
-fn is_listed(step: Step, pool: u32) -> bool
-    ensures { result ≡ is_listed pool step }
+const DATA: u8 = 3;
+
+const DIRECT: u8 = 4;
+
+const DELTA: u8 = 32;
+
+// The call that a listed step is.
+#[derive(Clone, Copy)]
+pub(crate) enum Call<'a> {
+    Mark(MarkId),
+    OpByte(u8),
+    Data(&'a [u8]),
+    Reference(AsmReference),
+}
+
+// The call of a step with a listed kind and listed fields.
+pub(crate) fn call_of<'a>(step: Step, pool: &'a [u8]) -> Option<Call<'a>>
+    ensures listed { is_some result ≡ is_listed (length pool.now) step }
+    ensures call { IfSome result (λ call. push_of call ≡ step_call pool.now step) }
 {
-    let kind = step.kind;
     let first = step.first;
     let second = step.second;
-    match kind {
-        MARK => second == 0,
-        OP => first <= MAX_BYTE && second == 0,
-        DATA => first <= second && second <= pool,
-        DIRECT => is_form(second),
-        _ => DELTA <= kind && is_form((kind - DELTA) as u32),
-    }
-}
-
-// Every one of so many steps is listed.
-fn all_listed(job: &[u8], pool: u32, start: usize, count: u32) -> bool
-    requires { start + 9 * count ≤ length job.now }
-    ensures { result ≡ all_listed pool (steps_from job.now count start) }
-{
-    let mut at = start;
-    let mut left = count;
-    while left > 0 {
-        if !is_listed(step_at(job, at), pool) {
-            return false;
+    match step.kind {
+        MARK => (second == 0).then_some(Call::Mark(MarkId(first))),
+        OP => (second == 0).then_some(Call::OpByte(u8::try_from(first).ok()?)),
+        DATA => Some(Call::Data(pool.get(first as usize..second as usize)?)),
+        DIRECT => reference(MarkReference::Direct(MarkId(first)), second),
+        kind => {
+            let span = MarkSpan {
+                start: MarkId(first),
+                end: MarkId(second),
+            };
+            reference(MarkReference::Delta(span), kind.checked_sub(DELTA)? as u32)
         }
-        at += STEP_BYTES;
-        left -= 1;
     }
-    true
 }
 
-// The counts, the pool and the steps are the whole of it.
-fn is_whole(job: &[u8]) -> bool
-    ensures { result ≡ is_whole job.now }
+// A reference to these marks, if the form names one.
+fn reference<'a>(mark_ref: MarkReference, form: u32) -> Option<Call<'a>>
+    ensures listed { is_some result ≡ is_form form }
+    ensures call { IfSome result (λ call. push_of call ≡ in_form mark_ref form) }
 {
-    if job.len() < COUNTS {
-        return false;
+    if !is_form(form) {
+        return None;
     }
-    let pool = number_at(job, 0) as usize;
-    if job.len() - COUNTS < pool {
-        return false;
-    }
-    let steps = number_at(job, NUMBER_BYTES + pool) as usize;
-    job.len() == COUNTS + pool + STEP_BYTES * steps
+    Some(Call::Reference(formed(mark_ref, form)))
 }
 
-// A job, and not 15.
-pub(crate) fn is_job(job: &[u8]) -> bool
-    ensures { result ≡ is_job job.now }
+// A step that is listed, with these pool bytes.
+fn is_listed(bytes: &[u8; STEP_BYTES], pool: &[u8]) -> bool
+    ensures { result ≡ is_listed (length pool.now) (step_of bytes.now) }
+{
+    call_of(step_of(bytes), pool).is_some()
+}
+
+// Every step is listed.
+fn all_listed(steps: &[[u8; STEP_BYTES]], pool: &[u8]) -> bool
+    ensures { result ≡ list_all (λ step. is_listed (length pool.now) (step_of step)) steps.now }
+{
+    steps.iter().all(|step| is_listed(step, pool))
+}
+
+// The parts of a job, and none of what is 15.
+pub(crate) fn job_parts(job: &[u8]) -> Option<Parts<'_>>
+    ensures job { is_some result ≡ is_job job.now }
+    ensures parts { IfSome result (λ p. (p.pool.now ≡ pool job.now) × (map step_of p.steps.now ≡ steps job.now)) }
 {
     if MAX_JOB < job.len() {
-        return false;
+        return None;
     }
-    if !is_whole(job) {
-        return false;
+    let parts = whole_parts(job)?;
+    if !all_listed(parts.steps, parts.pool) {
+        return None;
     }
-    let pool = number_at(job, 0);
-    let steps = number_at(job, NUMBER_BYTES + pool as usize);
-    all_listed(job, pool, COUNTS + pool as usize, steps)
+    Some(parts)
 }

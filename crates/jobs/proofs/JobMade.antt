@@ -12,7 +12,9 @@ use Rattle.layout.specs.Answer.{Laid}
 use Rattle.assembler.specs.Assemble.{assembly}
 use Rattle.job_steps.specs.JobFormat.{is_job, bad_job}
 use Rattle.job_steps.specs.JobCalls.{job_calls, built_by}
-use Rattle.job_steps.specs.JobBuild.{JobBuild, job_build}
+use Rattle.job_steps.specs.declared.JobError.{JobError}
+use Rattle.job_steps.specs.declared.JobError.TheVariants.{Refused, BadJob}
+use Rattle.job_steps.specs.JobBuild.{JobBuild, job_build, error_reply}
 use Rattle.job_steps.proofs.JobBuilds.{Builds, build_counts}
 use Rattle.jobs.specs.JobOutcome.{LentSlices, JobResult, lent_slices, empty_store, assembled_from, job_result}
 
@@ -71,10 +73,15 @@ module _ (job bytes words table result : List ℕ) where
       says (assembled_from words_per_section lent r steps.store) (ap (λ (x : BuiltReply). assembled_from words_per_section lent x steps.store) e ∙ made_of_steps)
 
   -- 15 or a refused call: neither table nor result is touched
-  pub made_refused : (n i k : ℕ) (bytes' words' : List ℕ) → Steps (refused n i k) bytes' words' → Says (refused n i k) (lent_slices bytes' words' table result)
+  made_refused : (n i k : ℕ) (bytes' words' : List ℕ) → Steps (refused n i k) bytes' words' → Says (refused n i k) (lent_slices bytes' words' table result)
   made_refused n i k bytes' words' h =
       let m = made_from (refused n i k) h.0 in
       (m.0, ap₂ (λ (x y : List ℕ). lent_slices x y table result) h.1.0 h.1.1 ∙ m.1)
+
+  -- so an error of the steps is the job's
+  pub made_of_error : (e : JobError) (bytes' words' : List ℕ) → Steps (error_reply e) bytes' words' → Says (error_reply e) (lent_slices bytes' words' table result)
+  made_of_error (Refused r) bytes' words' h = made_refused _ _ _ bytes' words' h
+  made_of_error BadJob bytes' words' h = made_refused _ _ _ bytes' words' h
 
   -- else assembly
   pub made_assembled : (a : Assembler) (bytes' words' table' result' : List ℕ) (reply : Reply Laid) → Steps (accepted a) bytes' words'

@@ -16,7 +16,9 @@ use Rattle.settling.specs.Settle.{settling}
 use Rattle.records.specs.Sections.{decode}
 use Rattle.assembler.specs.Assemble.{Outcome as Assembly, is_full, writing, assembly}
 use Rattle.assembler.proofs.Outcomes.{fits_law}
-use Rattle.jobs.specs.declared.JobReply.{JobReply}
+use Rattle.std.specs.declared.result.Result.{Result}
+use Rattle.jobs.specs.declared.LaidOut.{LaidOut}
+use Rattle.job_steps.specs.declared.JobError.{JobError}
 use Rattle.job_steps.specs.JobFormat.{is_job}
 use Rattle.job_steps.specs.JobCalls.{job_calls, built_by}
 use Rattle.jobs.specs.JobText.{text_for, longest_text}
@@ -25,13 +27,13 @@ use Rattle.jobs.specs.JobOutcome.{LentSlices, empty_store, job_reply, assembled_
 -- ---- the text of a reply
 
 -- it stands at the start of the buffer, which it doesn't pass, and so many bytes it has
-abbrev pub Wrote : List ℕ → List ℕ → JobReply → ℕ → List ℕ → Type 0
+abbrev pub Wrote : List ℕ → List ℕ → Result LaidOut JobError → ℕ → List ℕ → Type 0
 Wrote result buffer reply n after =
     (n ≤ length buffer) × ((n ≡ length (text_for (job_reply reply) result)) × (after ≡ over buffer 0 (text_for (job_reply reply) result)))
 
 -- of the reply in its case
-pub wrote : (result buffer : List ℕ) (reply x : JobReply) {n : ℕ} {after : List ℕ} → reply ≡ x → Wrote result buffer x n after → Wrote result buffer reply n after
-wrote result buffer reply x {n} {after} e w = subst (λ (r : JobReply). Wrote result buffer r n after) (sym e) w
+pub wrote : (result buffer : List ℕ) (reply x : Result LaidOut JobError) {n : ℕ} {after : List ℕ} → reply ≡ x → Wrote result buffer x n after → Wrote result buffer reply n after
+wrote result buffer reply x {n} {after} e w = subst (λ (r : Result LaidOut JobError). Wrote result buffer r n after) (sym e) w
 
 -- ---- the code lies within the result
 
@@ -62,26 +64,26 @@ reply_fits w job lent r room e l = subst (λ (n : ℕ). FitsIn n r) (sym l) (sub
 -- ---- the outcome
 
 module _ (job : List ℕ) (lent : LentSlices) (buffer : List ℕ) where
-  abbrev outcome : JobAnswer → LentSlices → List ℕ → Type 0 → Type 0
-  outcome answer slices text within =
+  abbrev pub Outcome : JobAnswer → LentSlices → List ℕ → Type 0 → Type 0
+  Outcome answer slices text within =
       (answer ≡ (job_outcome words_per_section job lent buffer).answer)
       × ((slices ≡ (job_outcome words_per_section job lent buffer).slices) × ((text ≡ (job_outcome words_per_section job lent buffer).text) × within))
 
   -- what is an outcome
-  is_outcome : (o : JobOutcome) → o ≡ job_outcome words_per_section job lent buffer → outcome o.answer o.slices o.text (Unit {0})
+  is_outcome : (o : JobOutcome) → o ≡ job_outcome words_per_section job lent buffer → Outcome o.answer o.slices o.text (Unit {0})
   is_outcome o e = (ap (λ (x : JobOutcome). x.answer) e, (ap (λ (x : JobOutcome). x.slices) e, (ap (λ (x : JobOutcome). x.text) e, tt)))
 
   -- too short a buffer: nothing changes
-  pub outcome_short : ltb (length buffer) (longest_text (length lent.result)) ≡ true → outcome short_text lent buffer (Unit {0})
+  pub outcome_short : ltb (length buffer) (longest_text (length lent.result)) ≡ true → Outcome short_text lent buffer (Unit {0})
   unfolding job_outcome
   outcome_short e = is_outcome (record { answer = short_text; slices = lent; text = buffer }) (rw e)
 
   -- else the reply and its text
   pub outcome_ran : ltb (length buffer) (longest_text (length lent.result)) ≡ false
-      → (reply : JobReply) (slices : LentSlices) (n : ℕ) (text : List ℕ)
+      → (reply : Result LaidOut JobError) (slices : LentSlices) (n : ℕ) (text : List ℕ)
       → job_reply reply ≡ (job_result words_per_section job lent).reply → slices ≡ (job_result words_per_section job lent).slices
       → Wrote slices.result buffer reply n text
-      → outcome (ran (job_reply reply) n) slices text (n ≤ length buffer)
+      → Outcome (ran (job_reply reply) n) slices text (n ≤ length buffer)
   unfolding job_outcome
   outcome_ran e reply slices n text r s w =
       let made = job_result words_per_section job lent in

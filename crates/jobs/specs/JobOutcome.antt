@@ -1,25 +1,25 @@
 -- Document 02, request 2: a job as one definition, from its bytes and the lent slices to the answer and the slices afterwards. The bytes
 -- printed are those that the same calls assemble on these slices. Assumes nothing.
-use Rattle.std.specs.Prelude.{ℕ, ◌≤◌, cond, List, ltb, length}
-use Rattle.units.specs.Reply.{Reply, accepted, refused, refusal_reply}
+use Rattle.std.specs.Prelude.{ℕ, ◌≤◌, cond, List, ltb, length, Result, Ok, Err}
+use Rattle.units.specs.Reply.{Reply, accepted, refused}
 use Rattle.slices.specs.Over.{over}
 use Rattle.records.specs.Store.{Store, store_of, empty_counts}
 use Rattle.calls.specs.Calls.{BuiltReply, all_reply}
 use Rattle.layout.specs.Answer.{Laid}
 use Rattle.assembler.specs.Assemble.{written, assembly}
-use Rattle.jobs.specs.declared.JobReply.{JobReply}
-use Rattle.jobs.specs.declared.JobReply.TheVariants.{Code, Refused, BadJob}
+use Rattle.jobs.specs.declared.LaidOut.{LaidOut}
 use Rattle.jobs.specs.declared.JobRun.{JobRun}
-use Rattle.jobs.specs.declared.JobRun.TheVariants.{Ran, ShortText}
+use Rattle.jobs.specs.declared.ShortText.{ShortText}
+use Rattle.job_steps.specs.declared.JobError.{JobError}
+use Rattle.job_steps.specs.JobBuild.{error_reply}
 use Rattle.job_steps.specs.JobFormat.{is_job, bad_job}
 use Rattle.job_steps.specs.JobCalls.{job_calls, built_by}
 use Rattle.jobs.specs.JobText.{text_for, longest_text}
 
 -- what the function answers, as a reply
-abbrev pub job_reply : JobReply → Reply Laid
-job_reply (Code length passes) = written length passes
-job_reply (Refused r) = refusal_reply r
-job_reply BadJob = refused bad_job 0 0
+abbrev pub job_reply : Result LaidOut JobError → Reply Laid
+job_reply (Ok laid) = written laid.length laid.passes
+job_reply (Err error) = error_reply error
 
 -- the slices that are lent: 'store bytes, .. result bytes, a section for each step and a table of .. marks'
 pub record LentSlices : Type 0 where
@@ -74,9 +74,9 @@ pub data JobAnswer : Type 0 where
   short_text : JobAnswer
 
 -- what the function answers
-abbrev pub answer_of : JobRun → JobAnswer
-answer_of (Ran reply text) = ran (job_reply reply) text
-answer_of ShortText = short_text
+abbrev pub answer_of : Result JobRun ShortText → JobAnswer
+answer_of (Ok run) = ran (job_reply run.reply) run.text_length
+answer_of (Err _) = short_text
 
 -- the answer, the slices and the text buffer afterwards
 pub record JobOutcome : Type 0 where
@@ -96,9 +96,9 @@ job_outcome w job lent buffer =
     })
 
 -- a text lies within a buffer of so many bytes
-abbrev pub TextWithin : ℕ → JobRun → Type 0
-TextWithin room (Ran reply text) = text ≤ room
-TextWithin room ShortText = Unit {0}
+abbrev pub TextWithin : ℕ → Result JobRun ShortText → Type 0
+TextWithin room (Ok run) = run.text_length ≤ room
+TextWithin room (Err _) = Unit {0}
 
 -- ---- private to the functions of this crate
 

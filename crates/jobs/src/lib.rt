@@ -12,24 +12,26 @@ ghost use Rattle.jobs.specs.JobText.{text_for, longest_text};
 ghost use Rattle.jobs.specs.JobOutcome.{lent_slices, job_reply, job_result, FitsIn, answer_of, job_outcome, TextWithin};
 
 use assembler::{Assembled, assemble};
-use job_steps::{JobBuilt, build_job};
+use job_steps::{JobError, build_job};
 use text::{write_code, write_refused};
-use units::Refusal;
 
-// What a job comes to: its code's length and the passes made, the refusal of a call or of assembly, or 15, no job.
+// What assembly of a job answers: the code's length, and the passes made.
 #[derive(Clone, Copy)]
-pub enum JobReply {
-    Code { length: u32, passes: u32 },
-    Refused(Refusal),
-    BadJob,
+pub struct LaidOut {
+    pub length: u32,
+    pub passes: u32,
 }
 
-// What running a job answers: the reply and the text's length; or the text buffer is shorter than the longest text.
+// What running a job answers: what the job came to, and the text's length.
 #[derive(Clone, Copy)]
-pub enum JobRun {
-    Ran { reply: JobReply, text_length: usize },
-    ShortText,
+pub struct JobRun {
+    pub reply: Result<LaidOut, JobError>,
+    pub text_length: usize,
 }
+
+// The text buffer is shorter than the longest text.
+#[derive(Clone, Copy)]
+pub struct ShortText;
 
 // 15: the number of a job that is none.
 const BAD_JOB: u32 = 15;
@@ -48,7 +50,7 @@ pub fn run_job(
     table: &mut [u32],
     res: &mut [u8],
     text: &mut [u8],
-) -> JobRun
+) -> Result<JobRun, ShortText>
     ensures answer { answer_of result
         ≡ (job_outcome words_per_section job.now
         (lent_slices bytes.old words.old table.old res.old) text.old).answer }
@@ -61,28 +63,22 @@ pub fn run_job(
     ensures within { TextWithin (length text.new) result }
 {
     if is_short(text.len(), res.len()) {
-        return JobRun::ShortText;
+        return Err(ShortText);
     }
     let reply = make(job, bytes, words, table, res);
-    let length = write_reply(reply, res, text);
-    JobRun::Ran {
-        reply,
-        text_length: length,
-    }
+    let text_length = write_reply(reply, res, text);
+    Ok(JobRun { reply, text_length })
 }
 
 // A text buffer of so many bytes is shorter than the longest text for a result of so many.
 fn is_short(text: usize, res: usize) -> bool
     ensures { result ≡ ltb text (longest_text res) }
 {
-    if text < LONGEST_REFUSAL {
-        return true;
-    }
-    (text - 6) / 2 < res
+    text < LONGEST_REFUSAL || (text - 6) / 2 < res
 }
 
 // The text of a reply.
-fn write_reply(reply: JobReply, res: &[u8], text: &mut [u8]) -> usize
+fn write_reply(reply: Result<LaidOut, JobError>, res: &[u8], text: &mut [u8]) -> usize
     requires res_in_bounds { longest_text (length res.now) ≤ length text.old }
     requires fits_in { FitsIn (length res.now) (job_reply reply) }
     ensures upper_bound { result ≤ length text.old }
@@ -90,40 +86,38 @@ fn write_reply(reply: JobReply, res: &[u8], text: &mut [u8]) -> usize
     ensures text_after { text.new ≡ over text.old 0 (text_for (job_reply reply) res.now) }
 {
     match reply {
-        JobReply::Code { length, passes } => write_code(text, &res[..length as usize]),
-        JobReply::Refused(refusal) => write_refused(text, refusal.number(), refusal.section()),
-        JobReply::BadJob => write_refused(text, BAD_JOB, 0),
+        Ok(laid) => write_code(text, &res[..laid.length as usize]),
+        Err(JobError::Refused(refusal)) => write_refused(text, refusal.number(), refusal.section()),
+        Err(JobError::BadJob) => write_refused(text, BAD_JOB, 0),
     }
 }
 
 // What assembly answered.
-fn reply_of(assembled: Assembled) -> JobReply
+fn reply_of(assembled: Assembled) -> Result<LaidOut, JobError>
     ensures { job_reply result ≡ assembled_reply assembled }
 {
     match assembled {
-        Assembled::Written { length, passes } => JobReply::Code { length, passes },
-        Assembled::Refused(refusal) => JobReply::Refused(refusal),
+        Assembled::Written { length, passes } => Ok(LaidOut { length, passes }),
+        Assembled::Refused(refusal) => Err(JobError::Refused(refusal)),
     }
 }
 
 // 15, or the calls in turn and then assembly.
+// Kept: the four slices as parameters, since a struct of them would stand only between this function and `run_job`, whose own are named
+// in docs/CLAIMS.md.
 fn make(
     job: &[u8],
     bytes: &mut [u8],
     words: &mut [u32],
     table: &mut [u32],
     res: &mut [u8],
-) -> JobReply
+) -> Result<LaidOut, JobError>
     ensures result_value { job_reply result ≡ (job_result words_per_section job.now
         (lent_slices bytes.old words.old table.old res.old)).reply }
     ensures res_after { lent_slices bytes.new words.new table.new res.new
         ≡ (job_result words_per_section job.now
         (lent_slices bytes.old words.old table.old res.old)).slices }
 {
-    let built = build_job(job, bytes, words);
-    match built {
-        JobBuilt::BadJob => JobReply::BadJob,
-        JobBuilt::Refused(refusal) => JobReply::Refused(refusal),
-        JobBuilt::Stored(store) => reply_of(assemble(store, bytes, words, table, res, 0)),
-    }
+    let store = build_job(job, bytes, words)?;
+    reply_of(assemble(store, bytes, words, table, res, 0))
 }

@@ -1,7 +1,7 @@
-// Input into a buffer that the caller lends, in place of a vector that grows.
+// Buffers in place of vectors that grow: an array of one value, and input into a buffer that the caller lends.
 #![tactic(auto)]
 
-ghost use Rattle.std.specs.Prelude.{ℕ, ◌≤◌, ◌<◌, IfOk, OnErr, length, take};
+ghost use Rattle.std.specs.Prelude.{ℕ, ◌≡◌, ◌≤◌, ◌<◌, IfOk, OnErr, length, take};
 ghost use Rattle.std.specs.Io.KnownBytes.{Consumes, IsAtEnd};
 
 use std::io;
@@ -21,6 +21,8 @@ pub fn read_full<R: Read>(input: &mut R, buffer: &mut [u8]) -> io::Result<usize>
         × Consumes (R.remaining input.old) (R.remaining input.new) (take n buffer.new)) }
 {
     let mut filled = 0;
+
+    // Kept: no `for` says it, since each turn's step is what the read gave, and the count is asked for where a read fails too.
     while filled < buffer.len() {
         let n = input.read(&mut buffer[filled..])?;
         if n == 0 {
@@ -29,4 +31,11 @@ pub fn read_full<R: Read>(input: &mut R, buffer: &mut [u8]) -> io::Result<usize>
         filled += n;
     }
     Ok(filled)
+}
+
+// An array of this value. Its length is all that a caller's proof sees: an array written in place stands in its goals cell by cell.
+pub fn filled<T: Copy, const N: usize>(value: T) -> [T; N]
+    ensures { length result ≡ N }
+{
+    [value; N]
 }

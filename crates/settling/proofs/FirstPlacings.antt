@@ -3,13 +3,15 @@
 use Prim.Native.Nat.{ℕ, zero, suc, ◌+◌, ◌≤◌, ◌<◌, suc-le-suc}
 use native.Mathlib.Omega.{arith}
 use mathlib.Core.Path.{◌≡◌, refl, sym, ap, ◌∙◌}
-use mathlib.Core.Bool.{Bool, true, false, cond, not, ◌&&◌, true≢false, not-not}
+use mathlib.Core.Bool.{Bool, true, false, cond, not, ◌&&◌, ◌||◌, true≢false, not-not}
 use mathlib.Core.List.{List, [], ◌∷◌}
 use mathlib.Core.Logic.{◌⊎◌, inl, inr}
 use lib.Dec.{eqb, leb}
-use lib.ListN.{length, set, replicate, length-set, length-replicate, get_or, get_or-replicate}
+use lib.ListN.{length, set, replicate, length-set, length-replicate, get_or-replicate}
 use lib.Seq.{get_or-set_same, get_or-set_other}
-use borrow.Author.Tests.{eqb-true, eqb-false, eq-eqb, ne_eqb, lt-ltb, le-ltb, leb-false, leb-true, not-true, not-false}
+use borrow.Author.Tests.{eqb-true, eqb-false, eq-eqb, ne_eqb, leb-false, leb-true, not-true, not-false}
+use Rattle.std.specs.List.{list_any}
+use Rattle.std.proofs.lemmas.List.Folds.{list_any_at}
 use Rattle.units.specs.Reference.{least_size}
 use Rattle.units.specs.declared.MarkReference.{MarkReference}
 use Rattle.units.specs.declared.MarkReference.TheVariants.{Direct, Delta}
@@ -17,10 +19,9 @@ use Rattle.records.specs.Sections.{Section, mark, ops, bytes, reference}
 use Rattle.records.specs.declared.record.StoredSection.{StoredSection}
 use Rattle.layout.specs.Passes.{entry}
 use Rattle.layout.specs.Conditions.{section_at, sum_of, Never, some_below, places_some, some_mark, names_some, placed, short_at, unplaced_at, first_unplaced, bytes_between, apart_at}
-use Rattle.layout.proofs.Least.{none_below, never_law}
+use Rattle.layout.proofs.Least.{none_below, some_below_lem, never_law}
 use Rattle.layout.proofs.Moves.{width_by}
 use Rattle.slices.proofs.Tests.{or-false}
-use Rattle.slices.proofs.First.{NoneBefore, search_hit, search_done}
 use Rattle.layout.proofs.Apart.{least_before, placed_law, ApartBySums, apart_sums}
 use Rattle.settling.specs.SectionWalk.{unplaced_words, place_mark, place_from, first_sums, all_placed}
 use Rattle.settling.proofs.SectionWords.{NotMark, unplaced_words_lem}
@@ -56,10 +57,6 @@ place_kept (mark a ∷ ss) sum table m h = go (eqb (entry table a) 0) refl (λ t
 place_kept (ops bs ∷ ss) sum table m h = place_kept ss (sum + length bs) table m h
 place_kept (bytes bs ∷ ss) sum table m h = place_kept ss (sum + length bs) table m h
 place_kept (reference r ∷ ss) sum table m h = place_kept ss (sum + least_size r) table m h
-
--- the mark a places m exactly if it is m
-other_mark : (a m : ℕ) → eqb m a ≡ false → mark a ≡ mark m → ⊥
-other_mark a m e d = let h : m ≡ a = cc in eqb-false m a e h
 
 -- a section that places m is the mark m
 not_mark : (s : Section) (m : ℕ) → places_some (eqb m) s ≡ false → s ≡ mark m → ⊥
@@ -176,19 +173,31 @@ module _ (n : ℕ) (ss : List Section) (in_table : Never ss (short_at n ss)) whe
 abbrev pub zero_at : List ℕ → ℕ → Bool
 zero_at table m = eqb (entry table m) 0
 
--- where entry m is the first that is 0
-pub zero_found : (table : List ℕ) (m : ℕ) → NoneBefore (zero_at table) m → m < length table → get_or table m 0 ≡ 0 → false ≡ all_placed table
-unfolding all_placed
-zero_found table m none below is =
-    let first = search_hit (zero_at table) (length table) m none below (eq-eqb _ 0 is) in
-    rw (← first, lt-ltb _ _ below)
+-- an entry with a property, where the library's search finds one
+some_entry : (test : ℕ → Bool) (table : List ℕ) → list_any test table ≡ true → (m : ℕ) × (m < length table) × (test (entry table m) ≡ true)
+some_entry test [] h = absurd (true≢false (sym h))
+some_entry test (x ∷ table) h = go (test x) refl h (λ k. some_entry test table k)
+  where
+    go : (q : Bool) → test x ≡ q → (q || list_any test table) ≡ true
+        → (list_any test table ≡ true → (m : ℕ) × (m < length table) × (test (entry table m) ≡ true))
+        → (m : ℕ) × (m < length (x ∷ table)) × (test (entry (x ∷ table) m) ≡ true)
+    go true e k rest = (0, omega arith, e)
+    go false e k rest = let r = rest k in (suc r.0, suc-le-suc r.1, r.2)
 
--- where none is
-pub no_zero : (table : List ℕ) (m : ℕ) → NoneBefore (zero_at table) m → m ≤ length table → length table ≤ m → true ≡ all_placed table
+-- the library's search for a 0
+pub none_zero : (table : List ℕ) (found : Bool) → found ≡ list_any (λ x. eqb x 0) table → not found ≡ all_placed table
 unfolding all_placed
-no_zero table m none within past =
-    let first = search_done (zero_at table) (length table) m none within past in
-    rw (← first, le-ltb _ _ past)
+none_zero table found is = ap not (is ∙ go (list_any (λ x. eqb x 0) table) refl (some_below (length table) (zero_at table)) refl)
+  where
+    go : (a : Bool) → list_any (λ x. eqb x 0) table ≡ a → (b : Bool) → some_below (length table) (zero_at table) ≡ b → a ≡ b
+    go true d true e = refl
+    go false d false e = refl
+    go true d false e =
+        let r = some_entry (λ x. eqb x 0) table d in
+        absurd (true≢false (sym r.2 ∙ none_below (length table) (zero_at table) r.0 e r.1))
+    go false d true e =
+        let r = (some_below_lem (length table) (zero_at table)).0 e in
+        absurd (true≢false (sym (list_any_at (λ x. eqb x 0) table r.0 0 r.1 r.2) ∙ d))
 
 module _ (n : ℕ) (ss : List Section) (table : List ℕ) (is : table ≡ first_sums n ss) (in_table : Never ss (short_at n ss)) where
   -- an entry of the table

@@ -9,7 +9,7 @@ use mathlib.Mathlib.Data.Bool.Basic.{or-eq-false-eq-eq-false-and-eq-false as bot
 use lib.Dec.{leb, ltb, eqb}
 use lib.ListN.{length}
 use lib.Seq.{length-slice}
-use borrow.Author.Tests.{leb-false, eq-eqb, ne_eqb, lt-ltb, le-ltb, le-leb, lt-leb}
+use borrow.Author.Tests.{leb-false, eq-eqb, ne_eqb, lt-ltb, le-ltb, le-leb}
 use Rattle.units.specs.declared.RefSize.{RefSize}
 use Rattle.records.specs.declared.record.AsmSection.{AsmSection}
 use Rattle.units.specs.Reference.{least_size, size_for}
@@ -169,32 +169,6 @@ module _ {x : StoredSection} where
   size_words_lem table (delta_words l s p g) n =
       rw (le-ltb x.kind direct_kind (omega arith), ne_eqb x.kind direct_kind (λ e. omega arith), g)
       (size_form (delta x.first x.second s p) (entry table x.second - entry table x.first))
-
--- ---- 7, as the code goes by kinds
-
-module _ (n : ℕ) (x : StoredSection) where
-  pub short_mark : x.kind ≡ mark_kind → leb n x.first ≡ short_words n x
-  unfolding short_words
-  short_mark k = rw k (simp (and-true, and-false, or-false))
-
-  pub short_span : (x.kind ≡ mark_kind → ⊥) → x.kind < direct_kind → false ≡ short_words n x
-  unfolding short_words
-  short_span m l =
-      let a : ltb data_kind x.kind ≡ false = le-ltb data_kind x.kind (omega arith) in
-      let b : ltb direct_kind x.kind ≡ false = le-ltb direct_kind x.kind (omega arith) in
-      rw (ne_eqb x.kind mark_kind m, a, b) (simp and-false)
-
-  pub short_first : direct_kind ≤ x.kind → n ≤ x.first → true ≡ short_words n x
-  unfolding short_words
-  short_first l h = rw (le-leb n x.first h, ne_eqb x.kind mark_kind (λ e. omega arith), lt-ltb data_kind x.kind l)
-
-  pub short_direct : x.kind ≡ direct_kind → x.first < n → false ≡ short_words n x
-  unfolding short_words
-  short_direct k h = rw (k, lt-leb n x.first h) (simp and-false)
-
-  pub short_second : direct_kind < x.kind → x.first < n → leb n x.second ≡ short_words n x
-  unfolding short_words
-  short_second l h = rw (lt-leb n x.first h, lt-ltb direct_kind x.kind l) (simp and-true)
 
 -- ---- marks in a table
 

@@ -22,16 +22,18 @@ use Rattle.records.specs.Sections.{Section, mark, ops, bytes, reference, decode_
 use Rattle.records.specs.declared.Assembler.{Assembler}
 use Rattle.records.specs.declared.record.StoredSection.{StoredSection}
 use Rattle.undamaged.specs.View.{Undamaged, Facts}
+use Rattle.undamaged.specs.declared.store.UndamagedStore.{UndamagedStore}
 use Rattle.undamaged.proofs.Soundness.{undamaged_iff}
 use Rattle.undamaged.proofs.Sections.{decode_snoc, span_stored}
+use Rattle.slices.proofs.First.{NoneBefore, least_same, least_from_least}
 use Rattle.layout.specs.Passes.{value_by}
-use Rattle.layout.specs.Conditions.{section_at, Never, sum_of, stored_in, placed, short_at, unplaced_at, missing_at, delta_at, backward_at, first_backward}
+use Rattle.layout.specs.Conditions.{section_at, first, Never, sum_of, stored_in, placed, short_at, unplaced_at, missing_at, delta_at, backward_at, first_backward}
 use Rattle.layout.proofs.Least.{never_law}
 use Rattle.layout.proofs.Moves.{width_by}
 use Rattle.layout.proofs.Apart.{least_before}
 use Rattle.layout.proofs.Premises.{never_backward}
 use Rattle.layout.proofs.WidthRule.{width_rule, size_five}
-use Rattle.settling.specs.SectionWalk.{sections_of, Whole, Fitting, short_words, MarksIn, missing_words, backward_words}
+use Rattle.settling.specs.SectionWalk.{sections_of, sections_in, MarksFit, Whole, Fitting, short_words, MarksIn, missing_words, backward_words}
 use Rattle.settling.proofs.SectionWords.{Words, mark_words, ops_words, data_words, direct_words, delta_words, words_read, size_section, short_words_lem, named_kind, missing_words_lem, backward_words_lem, delta_kind_lem, marks_in}
 
 -- ---- the list
@@ -235,3 +237,39 @@ module _ (store : Assembler) (held words : List ℕ) (u : Whole store held words
 -- and, by a table that has an entry for each mark, its marks are in the table
 pub turn_in : (store : Assembler) (held words : List ℕ) (n : ℕ) → Fitting store held words n → (i : ℕ) (x : StoredSection) → Turn (sections_of store held words) i x → MarksIn n x
 turn_in store held words n f i x t = marks_in n x (short_test n (sections_of store held words) i x t ∙ f.in_table i t.below)
+
+-- ---- for a walk over a store that was found undamaged
+
+-- so many sections
+pub sections_count : (store : UndamagedStore) → length (sections_in store) ≡ store.counts.sections
+sections_count store = decode_count words_per_section (store_of store.counts store.bytes.now store.words.now)
+
+-- the words that the code reads are those of section i
+pub turn_at : (store : UndamagedStore) (i : ℕ) (x : StoredSection) → i < store.counts.sections
+    → (i < store.counts.sections → x ≡ words_at words_per_section store.words.now i) → Turn (sections_in store) i x
+turn_at store i x l e = turn store.counts store.bytes.now store.words.now store.undamaged i x l (e l)
+
+-- no sum of sizes is large
+pub sums_small : (store : UndamagedStore) (i sum : ℕ) → Room (sections_in store) i sum → i ≤ store.counts.sections → sum ≤ 22020096
+sums_small store i sum h l = room_small store.counts store.bytes.now store.words.now store.undamaged i sum h l
+
+-- the marks of a section are in a table that fits all
+pub marks_fit : (n : ℕ) (ss : List Section) (i : ℕ) (x : StoredSection) → MarksFit ss n → Turn ss i x → MarksIn n x
+marks_fit n ss i x f t = marks_in n x (short_test n ss i x t ∙ f i t.below)
+
+-- its sections, where its parts are those of a store
+pub sections_same : (store : UndamagedStore) (counts : Assembler) (held words : List ℕ)
+    → (store.counts ≡ counts) × (store.bytes.now ≡ held) × (store.words.now ≡ words) → sections_in store ≡ sections_of counts held words
+sections_same store counts held words same =
+    ap (λ (x : Assembler). sections_of x store.bytes.now store.words.now) same.0
+    ∙ ap (λ (x : List ℕ). sections_of counts x store.words.now) same.1
+    ∙ ap (sections_of counts held) same.2
+
+-- where the walk of a search comes to: the first section with a property
+pub first_found : (store : UndamagedStore) (test : ℕ → Bool) (i : ℕ) → i ≤ store.counts.sections → NoneBefore test i
+    → (i < store.counts.sections → test i ≡ true) → i ≡ first (sections_in store) test
+first_found store test i within none one =
+    let count = sections_count store in
+    least_same test (length (sections_in store)) 0 i _
+    (record { above = omega arith; within = omega (arith, count); none = λ j a b. none j b; holds = λ l. one (omega (arith, count)) })
+    (least_from_least test (length (sections_in store)) 0)

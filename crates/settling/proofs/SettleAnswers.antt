@@ -5,8 +5,10 @@ use mathlib.Core.Path.{◌≡◌, refl, sym, ap, ◌∙◌, subst}
 use mathlib.Core.List.{List}
 use lib.ListN.{length, replicate}
 use borrow.Author.Tests.{lt-ltb, le-ltb}
+use Rattle.std.specs.Prelude.{Result, Ok, Err}
 use Rattle.units.specs.Replies.{max_passes}
 use Rattle.units.specs.Reply.{Reply, numbers_reply}
+use Rattle.units.specs.declared.reply.LaidOut.{LaidOut}
 use Rattle.units.specs.declared.reply.Refusal.{Refusal}
 use Rattle.records.specs.Store.{Store}
 use Rattle.records.specs.Damage.{whole_soundness}
@@ -19,8 +21,6 @@ use Rattle.layout.specs.Answer.{layout_numbers, Laid, answer_reply, answer_table
 use Rattle.layout.proofs.Answers.{sound_answer, answer_law}
 use Rattle.settling.specs.SectionWalk.{missing_refusal, passes_reply, passes_table}
 use Rattle.settling.specs.Settle.{settlement, settling, settled_reply}
-use Rattle.settling.specs.declared.Settled.{Settled}
-use Rattle.settling.specs.declared.Settled.TheVariants.{LaidOut, Refused}
 
 -- a reply and a table that are those of an answer
 abbrev pub Answers : ℕ → Answer → Reply Laid → List ℕ → Type 0
@@ -37,7 +37,7 @@ pub answers_said : (n : ℕ) (ss : List Section) (r : LayoutRefusal) (table : Li
 answers_said n ss r table says h = answers_refused n (answer n ss) r table ((answer_law n ss (no_layout r)).1 says) h
 
 -- 8, 17 or 18 as the code refuses it
-pub missing_reply : (x : Missing) (i : ℕ) → settled_reply (Refused (missing_refusal x i)) ≡ numbers_reply (layout_numbers (unplaced x i))
+pub missing_reply : (x : Missing) (i : ℕ) → settled_reply (Err (missing_refusal x i)) ≡ numbers_reply (layout_numbers (unplaced x i))
 missing_reply direct_mark i = refl
 missing_reply delta_start i = refl
 missing_reply delta_end i = refl
@@ -55,32 +55,32 @@ unfolding settle
 settle_is n ss table e = ap (passes max_passes 1 ss) e
 
 -- s is what the passes come to; reply and table are what they left
-module _ (n : ℕ) (ss : List Section) (reply : Settled) (table : List ℕ) where
+module _ (n : ℕ) (ss : List Section) (reply : Result LaidOut Refusal) (table : List ℕ) where
   -- refused by the passes
-  pub placed_refused : (s : Settling) (r : Refusal) → reply ≡ passes_reply s → table ≡ passes_table n s → reply ≡ Refused r → Answers n (settling_answer ss s) (settled_reply reply) table
+  pub placed_refused : (s : Settling) (r : Refusal) → reply ≡ passes_reply s → table ≡ passes_table n s → reply ≡ Err r → Answers n (settling_answer ss s) (settled_reply reply) table
   placed_refused (settled t sum k) r replied left e = let z : ◌≡◌ {A = ℕ} 0 1 = cc in absurd (omega arith)
   placed_refused (narrow_at i k) r replied left e = (ap settled_reply replied, left)
   placed_refused unsettled r replied left e = (ap settled_reply replied, left)
 
   -- backward at b
-  pub placed_backward : (s : Settling) (l k b : ℕ) (cleared : List ℕ) → reply ≡ passes_reply s → table ≡ passes_table n s → reply ≡ LaidOut l k
-      → b ≡ first_backward table ss → b < length ss → cleared ≡ replicate n 0 → Answers n (settling_answer ss s) (numbers_reply (layout_numbers (backward b k))) cleared
-  placed_backward (settled t sum j) l k b cleared replied left e h less c =
-      let same : j ≡ k = let q : LaidOut sum j ≡ LaidOut l k = sym replied ∙ e in cc in
+  pub placed_backward : (s : Settling) (laid : LaidOut) (b : ℕ) (cleared : List ℕ) → reply ≡ passes_reply s → table ≡ passes_table n s → reply ≡ Ok laid
+      → b ≡ first_backward table ss → b < length ss → cleared ≡ replicate n 0 → Answers n (settling_answer ss s) (numbers_reply (layout_numbers (backward b laid.passes))) cleared
+  placed_backward (settled t sum j) laid b cleared replied left e h less c =
+      let same : ◌≡◌ {A = LaidOut} (record { length = sum; passes = j }) laid = let q : Ok (record { length = sum; passes = j }) ≡ Ok laid = sym replied ∙ e in cc in
       let first : b ≡ first_backward t ss = h ∙ ap (λ (x : List ℕ). first_backward x ss) left in
-      answers_refused n (settling_answer ss (settled t sum j)) (backward b k) cleared
-      (rw (← first, lt-ltb b (length ss) less) (ap (λ (x : ℕ). no_layout (backward b x)) same)) c
-  placed_backward (narrow_at i j) l k b cleared replied left e h less c = let z : ◌≡◌ {A = ℕ} 0 1 = cc in absurd (omega arith)
-  placed_backward unsettled l k b cleared replied left e h less c = let z : ◌≡◌ {A = ℕ} 0 1 = cc in absurd (omega arith)
+      answers_refused n (settling_answer ss (settled t sum j)) (backward b laid.passes) cleared
+      (rw (← first, lt-ltb b (length ss) less) (ap (λ (x : LaidOut). no_layout (backward b x.passes)) same)) c
+  placed_backward (narrow_at i j) laid b cleared replied left e h less c = let z : ◌≡◌ {A = ℕ} 0 1 = cc in absurd (omega arith)
+  placed_backward unsettled laid b cleared replied left e h less c = let z : ◌≡◌ {A = ℕ} 0 1 = cc in absurd (omega arith)
 
   -- laid out
-  pub placed_done : (s : Settling) (l k b : ℕ) → reply ≡ passes_reply s → table ≡ passes_table n s → reply ≡ LaidOut l k
-      → b ≡ first_backward table ss → length ss ≤ b → Answers n (settling_answer ss s) (settled_reply (LaidOut l k)) table
-  placed_done (settled t sum j) l k b replied left e h more =
+  pub placed_done : (s : Settling) (laid : LaidOut) (b : ℕ) → reply ≡ passes_reply s → table ≡ passes_table n s → reply ≡ Ok laid
+      → b ≡ first_backward table ss → length ss ≤ b → Answers n (settling_answer ss s) (settled_reply (Ok laid)) table
+  placed_done (settled t sum j) laid b replied left e h more =
       let first : b ≡ first_backward t ss = h ∙ ap (λ (x : List ℕ). first_backward x ss) left in
       rw (← first, le-ltb b (length ss) more) (ap settled_reply (sym e ∙ replied), left)
-  placed_done (narrow_at i j) l k b replied left e h more = let z : ◌≡◌ {A = ℕ} 0 1 = cc in absurd (omega arith)
-  placed_done unsettled l k b replied left e h more = let z : ◌≡◌ {A = ℕ} 0 1 = cc in absurd (omega arith)
+  placed_done (narrow_at i j) laid b replied left e h more = let z : ◌≡◌ {A = ℕ} 0 1 = cc in absurd (omega arith)
+  placed_done unsettled laid b replied left e h more = let z : ◌≡◌ {A = ℕ} 0 1 = cc in absurd (omega arith)
 
 -- ---- 6
 

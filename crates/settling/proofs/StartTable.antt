@@ -8,8 +8,8 @@ use mathlib.Core.List.{List, [], ◌∷◌}
 use mathlib.Core.Logic.{◌⊎◌, inl, inr}
 use lib.Dec.{eqb, ltb}
 use lib.ListN.{length, get_or, set, drop, replicate, length-set}
-use lib.Seq.{get_or-set_same, get_or-set_other, ext_get_or}
-use borrow.Author.Tests.{eqb-true, eqb-false, eq-eqb, ne_eqb, lt-ltb, le-ltb, ltb-false, not-false}
+use lib.Seq.{get_or-set_same, ext_get_or}
+use borrow.Author.Tests.{eqb-true, eqb-false, lt-ltb, le-ltb, ltb-false, not-false}
 use Rattle.slices.specs.First.{least_from}
 use Rattle.slices.proofs.First.{NoneBefore, search_start, search_next, search_hit, search_done}
 use Rattle.records.specs.Sections.{Section, mark}
@@ -54,27 +54,7 @@ less_zeros (suc n) = ap (λ (l : List ℕ). 0 ∷ l) (less_zeros n)
 abbrev pub LessTo : List ℕ → List ℕ → ℕ → Type 0
 LessTo old t i = (length t ≡ length old) × ((j : ℕ) → j < i → get_or t j 0 ≡ get_or old j 0 - 1) × ((j : ℕ) → i ≤ j → get_or t j 0 ≡ get_or old j 0)
 
-pub less_start : (t : List ℕ) → LessTo t t 0
-less_start t = (refl, λ j l. absurd (omega arith), λ j l. refl)
-
-pub less_next : (old t : List ℕ) (i v : ℕ) → LessTo old t i → i < length t → v ≡ get_or t i 0 - 1 → LessTo old (set t i v) (i + 1)
-less_next old t i v h l e = (length-set t i v ∙ h.0, before, after)
-  where
-    before : (j : ℕ) → j < i + 1 → get_or (set t i v) j 0 ≡ get_or old j 0 - 1
-    before j k = go (eqb j i) refl
-      where
-        go : (q : Bool) → eqb j i ≡ q → get_or (set t i v) j 0 ≡ get_or old j 0 - 1
-        go true d =
-            let same : j ≡ i = eqb-true j i d in
-            rw same (get_or-set_same t i v 0 l ∙ e ∙ ap (λ (x : ℕ). x - 1) (h.2 i (omega arith)))
-        go false d =
-            let other : j ≡ i → ⊥ = eqb-false j i d in
-            get_or-set_other t i j v 0 other ∙ h.1 j (omega (arith, other))
-
-    after : (j : ℕ) → i + 1 ≤ j → get_or (set t i v) j 0 ≡ get_or old j 0
-    after j k = get_or-set_other t i j v 0 (λ (d : j ≡ i). omega arith) ∙ h.2 j (omega arith)
-
-pub less_done : (old t : List ℕ) (i : ℕ) → LessTo old t i → length t ≤ i → t ≡ less_one old
+pub less_done : (old t : List ℕ) (i : ℕ) → LessTo old t i → length old ≤ i → t ≡ less_one old
 less_done old t i h l = ext_get_or 0 t (less_one old) (h.0 ∙ sym (length_less old)) (λ j k. h.1 j (omega arith) ∙ sym (less_at old j))
 
 -- ---- a mark placed
@@ -88,17 +68,6 @@ length_place table m sum = go (eqb (entry table m) 0)
 
 module _ (table : List ℕ) (m sum : ℕ) (l : m < length table) where
   -- an entry of the table of first placings is never 0 once the mark is placed
-  pub placed_set : entry table m ≡ 0 → (false ≡ not (eqb (entry (place_mark table m sum) m) (sum + 1))) × (set table m (sum + 1) ≡ place_mark table m sum)
-  placed_set z =
-      let e : eqb (entry table m) 0 ≡ true = eq-eqb _ 0 z in
-      let s : eqb (entry (set table m (sum + 1)) m) (sum + 1) ≡ true = eq-eqb _ (sum + 1) (get_or-set_same table m (sum + 1) 0 l) in
-      rw (e, s) (refl, refl)
-
-  pub placed_kept : (entry table m ≡ 0 → ⊥) → (not (eqb (entry table m) (sum + 1)) ≡ not (eqb (entry (place_mark table m sum) m) (sum + 1))) × (table ≡ place_mark table m sum)
-  placed_kept n =
-      let e : eqb (entry table m) 0 ≡ false = ne_eqb _ 0 n in
-      rw e (refl, refl)
-
   placed_not_zero : entry (place_mark table m sum) m ≡ 0 → ⊥
   placed_not_zero = go (eqb (entry table m) 0) refl
     where
@@ -126,22 +95,6 @@ module _ (table : List ℕ) (m sum : ℕ) (l : m < length table) where
         let kept : entry (first_sums n ss) m ≡ entry (place_mark table m sum) m =
         ap (λ (x : List ℕ). entry x m) (sym whole) ∙ place_kept (drop (i + 1) ss) sum (place_mark table m sum) m placed_not_zero in
         ap₂ (λ (x y : ℕ). not (eqb x (y + 1))) (sym kept) d ∙ apart_test n ss i m k e h
-
--- ---- the earlier of two
-
-module _ (b : Bool) (i found : ℕ) where
-  pub earlier_not : b ≡ false → found ≡ cond b (cond (ltb i found) i found) found
-  earlier_not e = rw e
-
-  pub earlier_so : b ≡ true → i < found → i ≡ cond b (cond (ltb i found) i found) found
-  earlier_so e l =
-      let s : ltb i found ≡ true = lt-ltb i found l in
-      rw (e, s)
-
-  pub earlier_later : b ≡ true → found ≤ i → found ≡ cond b (cond (ltb i found) i found) found
-  earlier_later e l =
-      let s : ltb i found ≡ false = le-ltb i found l in
-      rw (e, s)
 
 -- ---- the first one so far
 

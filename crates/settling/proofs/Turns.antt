@@ -119,7 +119,7 @@ module _ (ss : List Section) (i sum : ℕ) (l : length ss ≤ i) where
   unfolding start_from
   start_done table = ap (λ (x : List Section). start_from x sum table) left_none
 
-  pass_done : (moved : Bool) (table : List ℕ) → walk_from (drop i ss) i sum moved table ≡ through sum moved table
+  pub pass_done : (moved : Bool) (table : List ℕ) → walk_from (drop i ss) i sum moved table ≡ through sum moved table
   unfolding walk_from
   pass_done moved table = ap (λ (x : List Section). walk_from x i sum moved table) left_none
 
@@ -150,26 +150,23 @@ passes_turn ss k table l =
     let d : 1025 - k ≡ suc (1025 - (k + 1)) = omega arith in
     ap (λ (n : ℕ). passes n k ss table) d ∙ ap (λ (j : ℕ). ended k (λ next. passes (1025 - (k + 1)) j ss next) (pass ss table)) (sym (add-one k))
 
--- s is what the passes come to; pass k starts from `from`, and its walk has come to section i
-module _
-    (ss : List Section) (k : ℕ) (from : List ℕ) (s : Settling) (l : k ≤ 1024) (whole : Left ss k from ≡ s)
-    (i sum : ℕ) (moved : Bool) (table : List ℕ) (inv : walk_from (drop i ss) i sum moved table ≡ pass ss from)
-  where
-    -- how it ends
-    walked : (w : Walked) → walk_from (drop i ss) i sum moved table ≡ w → ended k (λ next. Left ss (k + 1) next) w ≡ s
-    walked w e = ap (ended k (λ next. Left ss (k + 1) next)) (sym e ∙ inv) ∙ sym (passes_turn ss k from l) ∙ whole
+-- s is what the passes come to, and pass k starts from `from`
+module _ (ss : List Section) (k : ℕ) (from : List ℕ) (s : Settling) (l : k ≤ 1024) (whole : Left ss k from ≡ s) where
+  -- how it ends
+  walked_to : (w : Walked) → w ≡ pass ss from → ended k (λ next. Left ss (k + 1) next) w ≡ s
+  walked_to w e = ap (ended k (λ next. Left ss (k + 1) next)) e ∙ sym (passes_turn ss k from l) ∙ whole
 
-    -- it is left at section i
-    pub settles-narrow : walk_from (drop i ss) i sum moved table ≡ left_at i → s ≡ narrow_at i k
-    settles-narrow e = sym (walked (left_at i) e)
+  -- it is left at section i
+  pub settles-narrow : (i : ℕ) → left_at i ≡ pass ss from → s ≡ narrow_at i k
+  settles-narrow i e = sym (walked_to (left_at i) e)
 
-    -- it ends without a move
-    pub settles-calm : length ss ≤ i → moved ≡ false → s ≡ settled table sum k
-    settles-calm d m = sym (walked (through sum false table) (pass_done ss i sum d moved table ∙ ap (λ (b : Bool). through sum b table) m))
+  -- it ends without a move
+  pub settles-calm : (sum : ℕ) (moved : Bool) (table : List ℕ) → through sum moved table ≡ pass ss from → moved ≡ false → s ≡ settled table sum k
+  settles-calm sum moved table e m = sym (walked_to (through sum false table) (ap (λ (b : Bool). through sum b table) (sym m) ∙ e))
 
-    -- or with one
-    pub settles_on : length ss ≤ i → moved ≡ true → Left ss (k + 1) table ≡ s
-    settles_on d m = walked (through sum true table) (pass_done ss i sum d moved table ∙ ap (λ (b : Bool). through sum b table) m)
+  -- or with one
+  pub settles_on : (sum : ℕ) (moved : Bool) (table : List ℕ) → through sum moved table ≡ pass ss from → moved ≡ true → Left ss (k + 1) table ≡ s
+  settles_on sum moved table e m = walked_to (through sum true table) (ap (λ (b : Bool). through sum b table) (sym m) ∙ e)
 
 -- no pass is left
 pub settles_out : (ss : List Section) (k : ℕ) (table : List ℕ) (s : Settling) → 1024 < k → Left ss k table ≡ s → s ≡ unsettled

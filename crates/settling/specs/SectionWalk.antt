@@ -1,9 +1,10 @@
 -- What the functions inside settling go by, and those of `tables` and of the writer of code: the store that they are lent, a section by its
 -- three words, the table of first placings, and the passes' reply. proofs/ has that each is what layout/specs says of the decoded sections.
 -- Assumes nothing.
-use Rattle.std.specs.Prelude.{ℕ, ◌+◌, ◌-◌, ◌≤◌, ◌<◌, ◌≡◌, Bool, false, cond, not, ◌&&◌, ◌||◌, List, [], ◌∷◌, leb, ltb, eqb, length, set, replicate, Option, Some}
+use Rattle.std.specs.Prelude.{Result, Ok, Err, Option, Some, ℕ, ◌+◌, ◌-◌, ◌≤◌, ◌<◌, ◌≡◌, Bool, false, cond, not, ◌&&◌, ◌||◌, List, [], ◌∷◌, leb, ltb, eqb, length, set, replicate}
 use Rattle.units.specs.Reference.{least_size}
 use Rattle.units.specs.Form.{least_by_form, size_by_form}
+use Rattle.units.specs.declared.reply.LaidOut.{LaidOut}
 use Rattle.units.specs.declared.reply.Refusal.{Refusal}
 use Rattle.records.specs.Record.{mark_kind, data_kind, direct_kind, form_of}
 use Rattle.records.specs.Store.{store_of, words_per_section}
@@ -11,18 +12,26 @@ use Rattle.records.specs.Sections.{Section, mark, ops, bytes, reference, decode}
 use Rattle.records.specs.declared.Assembler.{Assembler}
 use Rattle.records.specs.declared.record.StoredSection.{StoredSection}
 use Rattle.undamaged.specs.View.{Undamaged}
-use Rattle.layout.specs.Passes.{entry, start, Settling, settled, narrow_at, unsettled, settle}
+use Rattle.undamaged.specs.declared.store.UndamagedStore.{UndamagedStore}
+use Rattle.layout.specs.Passes.{entry, start, Walked, through, left_at, Settling, settled, narrow_at, unsettled, settle}
 use Rattle.layout.specs.Conditions.{Never, some_below, short_at, Missing, direct_mark, delta_start, delta_end, delta_at, first_apart}
 use Rattle.layout.specs.Answer.{Answer, settling_answer}
-use Rattle.settling.specs.declared.Settled.{Settled}
+use Rattle.settling.specs.declared.passes.Pass.{Pass}
 use Rattle.settling.specs.declared.table.Placings.{Placings}
-use Rattle.settling.specs.declared.Settled.TheVariants.{LaidOut, Refused}
 
 -- ---- the store
 
 -- the sections of a store
 abbrev pub sections_of : Assembler → List ℕ → List ℕ → List Section
 sections_of store held words = decode words_per_section (store_of store held words)
+
+-- those of a store that was found undamaged
+abbrev pub sections_in : UndamagedStore → List Section
+sections_in store = sections_of store.counts store.bytes.now store.words.now
+
+-- a table of length n has an entry for each mark placed or named
+abbrev pub MarksFit : List Section → ℕ → Type 0
+MarksFit ss n = Never ss (short_at n ss)
 
 -- the store is undamaged
 abbrev pub Whole : Assembler → List ℕ → List ℕ → Type 0
@@ -118,11 +127,16 @@ pub record Placed (n : ℕ) (ss : List Section) (found : Placings) (table : List
 abbrev pub settled_answer : ℕ → List Section → Answer
 settled_answer n ss = settling_answer ss (settle n ss)
 
--- what they answer, 12 left out
-abbrev pub passes_reply : Settling → Settled
-passes_reply (settled table sum k) = LaidOut sum k
-passes_reply (narrow_at i k) = Refused (Refusal.TooNarrow i k)
-passes_reply unsettled = Refused Refusal.Unsettled
+-- what a pass leaves, by what the code answers and the table afterwards
+abbrev pub walked : Result Pass ℕ → List ℕ → Walked
+walked (Ok p) table = through p.length p.moved table
+walked (Err i) table = left_at i
+
+-- what the passes answer, 12 left out
+abbrev pub passes_reply : Settling → Result LaidOut Refusal
+passes_reply (settled table sum k) = Ok (record { length = sum; passes = k })
+passes_reply (narrow_at i k) = Err (Refusal.TooNarrow i k)
+passes_reply unsettled = Err Refusal.Unsettled
 
 -- the table after them, of length n: refused, it is all 0
 abbrev pub passes_table : ℕ → Settling → List ℕ

@@ -7,37 +7,34 @@ mod search;
 mod section;
 mod table;
 
-ghost use Rattle.std.specs.Prelude.{◌≡◌, length, replicate, false};
+ghost use Rattle.std.specs.Prelude.{◌≡◌, length, replicate, false, Err};
 ghost use Rattle.records.specs.Store.{store_of, words_per_section};
 ghost use Rattle.layout.specs.Passes.{start};
 ghost use Rattle.layout.specs.Conditions.{IsFirst, Never, unplaced_at, delta_at};
 ghost use Rattle.layout.specs.Answer.{answer, answer_reply, answer_table};
-ghost use Rattle.settling.specs.SectionWalk.{sections_of, Whole, Fitting, first_sums, less_one, settled_answer};
+ghost use Rattle.settling.specs.SectionWalk.{sections_in, MarksFit, first_sums, less_one, settled_answer};
 ghost use Rattle.settling.specs.Settle.{settling, settled_reply};
 ghost use Rattle.settling.specs.SettlingShortest.{SettlesDemand3};
 ghost use Rattle.settling.specs.TightSettling.{SettlesWithin, SettlesLeast};
-ghost use Rattle.settling.specs.declared.Settled.TheVariants.{Refused};
 
 use crate::passes::run_passes;
 use crate::search::{first_backward, first_unplaced};
-use crate::section::{entry_of, section_words};
+use crate::section::entry_of;
 use crate::table::{less_one, place};
-use records::{Assembler, Soundness, check_store};
+use records::Assembler;
 pub use search::{is_short, missing_refusal};
 pub use table::{clear, earlier};
-use units::{MarkId, Refusal};
-
-// Laid out: the code's length in all and the passes made; or a refusal: of settling 6 to 12, 17 or 18, with the table all 0. The tests of a
-// table from anyone (`tables`) answer in it too: 6 to 10, 12 or 16 to 18, with 0 passes and the table as it was.
-#[derive(Clone, Copy)]
-pub enum Settled {
-    LaidOut { length: u32, passes: u32 },
-    Refused(Refusal),
-}
+use undamaged::UndamagedStore;
+use units::{LaidOut, MarkId, Refusal};
 
 // Settling over a store and a lent table, whatever they hold. Refusals: 6 damaged, 7 short table, 8 a direct reference's mark unplaced or
 // 17 a delta's start or 18 its end, whichever section comes first, 9 placed apart, 10 too narrow, 11 unsettled, 12 backward.
-pub fn settle(store: Assembler, bytes: &[u8], words: &[u32], table: &mut [u32]) -> Settled
+pub fn settle(
+    store: Assembler,
+    bytes: &[u8],
+    words: &[u32],
+    table: &mut [u32],
+) -> Result<LaidOut, Refusal>
     ensures reply { settled_reply result
         ≡ (settling words_per_section (length table.old) (store_of store bytes.now words.now)).reply }
     ensures table { table.new
@@ -50,99 +47,85 @@ pub fn settle(store: Assembler, bytes: &[u8], words: &[u32], table: &mut [u32]) 
         (settled_reply result) table.new }
 {
     clear(table); // on a 6 too
-    match check_store(store, bytes, words) {
-        Soundness::Damaged(section) => Settled::Refused(Refusal::Damaged { section }),
-        Soundness::Sound => settle_whole(store, bytes, words, table),
-    }
+    let store = UndamagedStore::check(store, bytes, words)?;
+    settle_whole(store, table)
 }
 
 // 7, then 8, 17 or 18, then 9, then the settling, of an undamaged store.
-fn settle_whole(store: Assembler, bytes: &[u8], words: &[u32], table: &mut [u32]) -> Settled
-    requires whole { Whole store bytes.now words.now }
+fn settle_whole(store: UndamagedStore, table: &mut [u32]) -> Result<LaidOut, Refusal>
     requires table_value { table.old ≡ replicate (length table.old) 0 }
     ensures reply { settled_reply result
-        ≡ answer_reply (answer (length table.old) (sections_of store bytes.now words.now)) }
+        ≡ answer_reply (answer (length table.old) (sections_in store.entry)) }
     ensures table { table.new
         ≡ answer_table (length table.old)
-        (answer (length table.old) (sections_of store bytes.now words.now)) }
+        (answer (length table.old) (sections_in store.entry)) }
 {
-    let found = place(store, bytes, words, table);
+    let found = place(store, table);
     let short = found.short;
-    if short < store.sections {
+    if short < store.counts.sections {
         return refuse(table, Refusal::ShortTable { section: short });
     }
-    let unplaced = first_unplaced(store, bytes, words, table);
-    if unplaced < store.sections {
-        return refuse_unplaced(store, bytes, words, table, unplaced);
+    let unplaced = first_unplaced(store, table);
+    if unplaced < store.counts.sections {
+        return refuse_unplaced(store, table, unplaced);
     }
     let apart = found.apart;
-    if apart < store.sections {
+    if apart < store.counts.sections {
         return refuse(table, Refusal::PlacedApart { section: apart });
     }
-    settle_placed(store, bytes, words, table, found.has_delta)
+    settle_placed(store, table, found.has_delta)
 }
 
 // 8, 17 or 18: the section that the search found is read once more for which mark it misses.
-fn refuse_unplaced(
-    store: Assembler,
-    bytes: &[u8],
-    words: &[u32],
-    table: &mut [u32],
-    at: u32,
-) -> Settled
-    requires fitting { Fitting store bytes.now words.now (length table.old) }
-    requires table_value { table.old ≡ first_sums (length table.old) (sections_of store bytes.now words.now) }
-    requires first { IsFirst (sections_of store bytes.now words.now) (unplaced_at (sections_of store bytes.now words.now)) at }
+fn refuse_unplaced(store: UndamagedStore, table: &mut [u32], at: u32) -> Result<LaidOut, Refusal>
+    requires in_table { MarksFit (sections_in store) (length table.old) }
+    requires table_value { table.old ≡ first_sums (length table.old) (sections_in store) }
+    requires first { IsFirst (sections_in store) (unplaced_at (sections_in store)) at }
     ensures reply { settled_reply result
-        ≡ answer_reply (answer (length table.old) (sections_of store bytes.now words.now)) }
+        ≡ answer_reply (answer (length table.old) (sections_in store.entry)) }
     ensures table { table.new
         ≡ answer_table (length table.old)
-        (answer (length table.old) (sections_of store bytes.now words.now)) }
+        (answer (length table.old) (sections_in store.entry)) }
 {
-    let section = section_words(words, at as usize);
+    let section = store.section(at);
     let start_placed = entry_of(table, MarkId(section.first)) != 0;
     refuse(table, missing_refusal(section, start_placed, at))
 }
 
 // The start table, the passes and 12, where 7 to 9, 17 and 18 are not the answer.
 fn settle_placed(
-    store: Assembler,
-    bytes: &[u8],
-    words: &[u32],
+    store: UndamagedStore,
     table: &mut [u32],
     has_delta: bool,
-) -> Settled
-    requires fitting { Fitting store bytes.now words.now (length table.old) }
-    requires table_value { less_one table.old ≡ start (length table.old) (sections_of store bytes.now words.now) }
+) -> Result<LaidOut, Refusal>
+    requires in_table { MarksFit (sections_in store) (length table.old) }
+    requires table_value { less_one table.old ≡ start (length table.old) (sections_in store) }
     requires never { has_delta ≡ false
-        → Never (sections_of store bytes.now words.now) (delta_at (sections_of store bytes.now words.now)) }
+        → Never (sections_in store) (delta_at (sections_in store)) }
     ensures reply { settled_reply result
-        ≡ answer_reply (settled_answer (length table.old) (sections_of store bytes.now words.now)) }
+        ≡ answer_reply (settled_answer (length table.old) (sections_in store.entry)) }
     ensures table { table.new
         ≡ answer_table (length table.old)
-        (settled_answer (length table.old) (sections_of store bytes.now words.now)) }
+        (settled_answer (length table.old) (sections_in store.entry)) }
 {
     less_one(table);
-    let reply = run_passes(store, bytes, words, table);
-    let Settled::LaidOut { length: _, passes } = reply else {
-        return reply;
-    };
-    let backward = first_backward(store, bytes, words, table, has_delta);
-    if backward < store.sections {
+    let laid = run_passes(store, table)?;
+    let backward = first_backward(store, table, has_delta);
+    if backward < store.counts.sections {
         let refusal = Refusal::Backward {
             section: backward,
-            passes,
+            passes: laid.passes,
         };
         return refuse(table, refusal);
     }
-    reply
+    Ok(laid)
 }
 
 // A refusal after the tests of 6: the table, which may hold placings or offsets, is all 0 again.
-pub(crate) fn refuse(table: &mut [u32], refusal: Refusal) -> Settled
-    ensures reply { result ≡ Refused refusal }
+pub(crate) fn refuse(table: &mut [u32], refusal: Refusal) -> Result<LaidOut, Refusal>
+    ensures reply { result ≡ Err refusal }
     ensures table { table.new ≡ replicate (length table.old) 0 }
 {
     clear(table);
-    Settled::Refused(refusal)
+    Err(refusal)
 }

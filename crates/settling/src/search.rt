@@ -1,12 +1,14 @@
 // The test for 7 of one section, and the searches for 8, 17 or 18 and for 12: the first section with a property, the count of sections if
 // there is none.
-ghost use Rattle.std.specs.Prelude.{◌≡◌, leb, length, false};
+ghost use Rattle.std.specs.Prelude.{◌≡◌, ℕ, ◌<◌, ◌≤◌, leb, length, true, false};
+ghost use Rattle.records.specs.Store.{words_per_section, words_at};
 ghost use Rattle.layout.specs.Conditions.{Never, delta_at, first_unplaced, first_backward};
-ghost use Rattle.settling.specs.SectionWalk.{sections_of, Fitting, short_words, MarksIn, unplaced_words, backward_words};
+ghost use Rattle.settling.specs.SectionWalk.{sections_in, MarksFit, short_words, MarksIn, unplaced_words, backward_words};
 ghost use Rattle.settling.specs.SectionWalk.{first_sums, all_placed, missing_words, missing_refusal};
 
-use crate::section::{entry_of, section_words};
-use records::{Assembler, StoredSection, kind};
+use crate::section::entry_of;
+use records::{StoredSection, kind};
+use undamaged::UndamagedStore;
 use units::{MarkId, Refusal};
 
 // A mark that a table of this length has no entry for.
@@ -17,6 +19,7 @@ fn is_past(mark: MarkId, limit: usize) -> bool
 }
 
 // 7, for one section. It goes by kinds as `place` does, so that the two are compiled to the same branches.
+#[tactic(auto, unfolding(crate::specs::SectionWalk::short_words))]
 pub fn is_short(section: StoredSection, limit: usize) -> bool
     ensures { result ≡ short_words limit section }
 {
@@ -36,6 +39,7 @@ pub fn is_short(section: StoredSection, limit: usize) -> bool
 }
 
 // 8, 17 or 18, for one section, by the table of first placings.
+#[tactic(auto, unfolding(crate::specs::SectionWalk::unplaced_words))]
 fn is_unplaced(section: StoredSection, table: &[u32]) -> bool
     requires { MarksIn (length table.now) section }
     ensures { result ≡ unplaced_words table.now section }
@@ -53,40 +57,43 @@ fn is_unplaced(section: StoredSection, table: &[u32]) -> bool
 }
 
 // Every mark that the table has room for is placed.
-#[tactic(auto, using(crate::proofs::FirstPlacings::zero_found, crate::proofs::FirstPlacings::no_zero))]
+#[tactic(auto, using(crate::proofs::FirstPlacings::none_zero))]
 fn all_placed(table: &[u32]) -> bool
     ensures { result ≡ all_placed table.now }
 {
-    let mut m = 0;
-    while m < table.len() {
-        if table[m] == 0 {
-            return false;
+    !table.contains(&0)
+}
+
+// The first section with a property; the count of sections if there is none.
+fn first_section<F: Fn(StoredSection) -> bool>(store: UndamagedStore, is_one: F) -> u32
+    requires { (i : ℕ) → i < store.counts.sections → F.pre is_one (words_at words_per_section store.words.now i) }
+    ensures within { result ≤ store.entry.counts.sections }
+    ensures none { (i : ℕ) → i < result → F.post is_one (words_at words_per_section store.entry.words.now i) false }
+    ensures one { result < store.entry.counts.sections
+        → F.post is_one (words_at words_per_section store.entry.words.now result) true }
+{
+    for i in 0..store.counts.sections {
+        if is_one(store.section(i)) {
+            return i;
         }
-        m += 1;
     }
-    true
+    store.counts.sections
 }
 
 // The first reference to a mark that is never placed. Where all are placed, the sections need no walk.
-pub(crate) fn first_unplaced(store: Assembler, bytes: &[u8], words: &[u32], table: &[u32]) -> u32
-    requires fitting { Fitting store bytes.now words.now (length table.now) }
-    requires table_value { table.now ≡ first_sums (length table.now) (sections_of store bytes.now words.now) }
-    ensures { result ≡ first_unplaced (sections_of store bytes.now words.now) }
+pub(crate) fn first_unplaced(store: UndamagedStore, table: &[u32]) -> u32
+    requires in_table { MarksFit (sections_in store) (length table.now) }
+    requires table_value { table.now ≡ first_sums (length table.now) (sections_in store) }
+    ensures { result ≡ first_unplaced (sections_in store.entry) }
 {
     if all_placed(table) {
-        return store.sections;
+        return store.counts.sections;
     }
-    let mut i: u32 = 0;
-    while i < store.sections {
-        if is_unplaced(section_words(words, i as usize), table) {
-            return i;
-        }
-        i += 1;
-    }
-    i
+    first_section(store, |section| is_unplaced(section, table))
 }
 
 // 8, 17 or 18 for the section that the search found: by its kind and, of a delta, by whether its start is placed. `tables` calls it too.
+#[tactic(auto, unfolding(crate::specs::SectionWalk::missing_words))]
 pub fn missing_refusal(section: StoredSection, start_placed: bool, at: u32) -> Refusal
     ensures { result ≡ missing_refusal (missing_words start_placed section) at }
 {
@@ -100,6 +107,7 @@ pub fn missing_refusal(section: StoredSection, start_placed: bool, at: u32) -> R
 }
 
 // 12, for one section, by the settled table.
+#[tactic(auto, unfolding(crate::specs::SectionWalk::backward_words))]
 fn is_backward(section: StoredSection, table: &[u32]) -> bool
     requires { MarksIn (length table.now) section }
     ensures { result ≡ backward_words table.now section }
@@ -111,27 +119,14 @@ fn is_backward(section: StoredSection, table: &[u32]) -> bool
 }
 
 // The first delta whose end is below its start. Where there is no delta, the sections need no walk.
-pub(crate) fn first_backward(
-    store: Assembler,
-    bytes: &[u8],
-    words: &[u32],
-    table: &[u32],
-    has_delta: bool,
-) -> u32
-    requires fitting { Fitting store bytes.now words.now (length table.now) }
+pub(crate) fn first_backward(store: UndamagedStore, table: &[u32], has_delta: bool) -> u32
+    requires in_table { MarksFit (sections_in store) (length table.now) }
     requires never { has_delta ≡ false
-        → Never (sections_of store bytes.now words.now) (delta_at (sections_of store bytes.now words.now)) }
-    ensures { result ≡ first_backward table.now (sections_of store bytes.now words.now) }
+        → Never (sections_in store) (delta_at (sections_in store)) }
+    ensures { result ≡ first_backward table.now (sections_in store.entry) }
 {
     if !has_delta {
-        return store.sections;
+        return store.counts.sections;
     }
-    let mut i: u32 = 0;
-    while i < store.sections {
-        if is_backward(section_words(words, i as usize), table) {
-            return i;
-        }
-        i += 1;
-    }
-    i
+    first_section(store, |section| is_backward(section, table))
 }

@@ -1,27 +1,12 @@
 // One section as the walks of settling read it: by its three words, which become marks or positions once the kind is known. In an
 // undamaged store a kind below Direct that isn't a mark is Ops or Data, and one above it a delta.
-ghost use Rattle.std.specs.Prelude.{◌≡◌, ◌+◌, ◌-◌, ◌*◌, ◌≤◌, ◌<◌, length};
+ghost use Rattle.std.specs.Prelude.{◌≡◌, ◌-◌, ◌≤◌, ◌<◌, length};
 ghost use Rattle.records.specs.Record.{direct_kind};
-ghost use Rattle.records.specs.Store.{words_per_section, words_at};
 ghost use Rattle.layout.specs.Passes.{entry};
 ghost use Rattle.settling.specs.SectionWalk.{MarksIn, value_words, least_words, size_words};
 
-use records::{Assembler, StoredSection, form_of, kind};
-use units::{AsmBytesIdx, MarkId, SizeFor, form};
-
-// The three words of section i. A copy of the reader in `records`, private and so without a test of the index, with which assembly takes
-// 8 to 15 % longer (docs/DECISIONS.md, 49).
-pub(crate) fn section_words(words: &[u32], i: usize) -> StoredSection
-    requires { words_per_section * (i + 1) ≤ length words.now }
-    ensures { result ≡ words_at words_per_section words.now i }
-{
-    let at = Assembler::WORDS * i;
-    StoredSection {
-        kind: words[at],
-        first: words[at + 1],
-        second: words[at + 2],
-    }
-}
+use records::{StoredSection, form_of, kind};
+use units::{AsmBytesIdx, MarkId, form};
 
 // A mark's entry of the table.
 pub(crate) fn entry_of(table: &[u32], mark: MarkId) -> u32
@@ -43,6 +28,7 @@ fn span_length(section: StoredSection) -> u32
 }
 
 // A reference's value by the table as it is; an end below its start reads 0.
+#[tactic(auto, unfolding(crate::specs::SectionWalk::value_words))]
 fn value_of(section: StoredSection, table: &[u32]) -> u32
     requires { MarksIn (length table.now) section × (direct_kind ≤ section.kind) }
     ensures { result ≡ value_words table.now section }
@@ -51,14 +37,11 @@ fn value_of(section: StoredSection, table: &[u32]) -> u32
     if section.kind == kind::DIRECT {
         return start;
     }
-    let end = entry_of(table, MarkId(section.second));
-    if end < start {
-        return 0;
-    }
-    end - start
+    entry_of(table, MarkId(section.second)).saturating_sub(start)
 }
 
 // The least size of a section that isn't a mark.
+#[tactic(auto, unfolding(crate::specs::SectionWalk::least_words))]
 pub(crate) fn least_size(section: StoredSection) -> u32
     requires { section.kind < direct_kind → section.first ≤ section.second }
     ensures { result ≡ least_words section }
@@ -69,13 +52,14 @@ pub(crate) fn least_size(section: StoredSection) -> u32
     form::least_size(form_of(section))
 }
 
-// The size of a section that isn't a mark, by the table as it is; or too narrow.
-pub(crate) fn size_of(section: StoredSection, table: &[u32]) -> SizeFor
+// The size of a section that isn't a mark, by the table as it is; none if it is too narrow.
+#[tactic(auto, unfolding(crate::specs::SectionWalk::size_words))]
+pub(crate) fn size_of(section: StoredSection, table: &[u32]) -> Option<u32>
     requires { MarksIn (length table.now) section × (section.kind < direct_kind → section.first ≤ section.second) }
     ensures { result ≡ size_words table.now section }
 {
     if section.kind < kind::DIRECT {
-        return SizeFor::Bytes(span_length(section));
+        return Some(span_length(section));
     }
     form::size_for(form_of(section), value_of(section, table))
 }

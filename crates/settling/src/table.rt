@@ -2,22 +2,19 @@
 ghost use Rattle.std.specs.Prelude.{◌≡◌, cond, not, ◌+◌, ◌-◌, ◌≤◌, ◌<◌, eqb, ltb, length, replicate};
 ghost use Rattle.layout.specs.Passes.{entry};
 ghost use Rattle.layout.specs.Conditions.{Never, short_at, first_short};
-ghost use Rattle.settling.specs.SectionWalk.{sections_of, Whole, place_mark, Placed, less_one};
+ghost use Rattle.settling.specs.SectionWalk.{sections_in, place_mark, Placed, less_one};
 
 use crate::search::is_short;
-use crate::section::{least_size, section_words};
-use records::{Assembler, kind};
+use crate::section::least_size;
+use records::kind;
+use undamaged::UndamagedStore;
 use units::MarkId;
 
 // Every entry to 0.
 pub fn clear(table: &mut [u32])
     ensures { table.new ≡ replicate (length table.old) 0 }
 {
-    let mut i = 0;
-    while i < table.len() {
-        table[i] = 0;
-        i += 1;
-    }
+    table.fill(0);
 }
 
 // At a mark's first placing, the sum of least sizes before it, plus 1; that a later placing has another.
@@ -39,13 +36,7 @@ fn place_mark(table: &mut [u32], mark: MarkId, sum: u32) -> bool
 pub fn earlier(found: u32, i: u32, is_one: bool) -> u32
     ensures { result ≡ cond is_one (cond (ltb i found) i found) found }
 {
-    if !is_one {
-        return found;
-    }
-    if i < found {
-        return i;
-    }
-    found
+    if is_one { found.min(i) } else { found }
 }
 
 // What the walk of the placings finds. The first section with a mark at or past the table's length, at which it stops; the first placing
@@ -58,21 +49,19 @@ pub(crate) struct Placings {
 }
 
 // The table of first placings. 7 and 9 are looked for on the way, so that neither needs a walk of its own.
-pub(crate) fn place(store: Assembler, bytes: &[u8], words: &[u32], table: &mut [u32]) -> Placings
-    requires whole { Whole store bytes.now words.now }
+pub(crate) fn place(store: UndamagedStore, table: &mut [u32]) -> Placings
     requires table_value { table.old ≡ replicate (length table.old) 0 }
-    ensures short { result.short ≡ first_short (length table.old) (sections_of store bytes.now words.now) }
-    ensures placed { Never (sections_of store bytes.now words.now)
-        (short_at (length table.old) (sections_of store bytes.now words.now))
-        → Placed (length table.old) (sections_of store bytes.now words.now) result table.new }
+    ensures short { result.short ≡ first_short (length table.old) (sections_in store.entry) }
+    ensures placed { Never (sections_in store.entry)
+        (short_at (length table.old) (sections_in store.entry))
+        → Placed (length table.old) (sections_in store.entry) result table.new }
 {
     let limit = table.len();
-    let mut i: u32 = 0;
     let mut sum: u32 = 0;
-    let mut apart = store.sections;
+    let mut apart = store.counts.sections;
     let mut has_delta = false;
-    while i < store.sections {
-        let section = section_words(words, i as usize);
+    for i in 0..store.counts.sections {
+        let section = store.section(i);
         if is_short(section, limit) {
             return Placings {
                 short: i,
@@ -80,38 +69,26 @@ pub(crate) fn place(store: Assembler, bytes: &[u8], words: &[u32], table: &mut [
                 has_delta,
             };
         }
-        has_delta = has_delta | (kind::DIRECT < section.kind);
+        has_delta |= kind::DIRECT < section.kind;
         if section.kind == kind::MARK {
             let is_apart = place_mark(table, MarkId(section.first), sum);
             apart = earlier(apart, i, is_apart);
         } else {
             sum += least_size(section);
         }
-        i += 1;
     }
     Placings {
-        short: i,
+        short: store.counts.sections,
         apart,
         has_delta,
     }
-}
-
-fn less(n: u32) -> u32
-    ensures { result ≡ n - 1 }
-{
-    if n == 0 {
-        return 0;
-    }
-    n - 1
 }
 
 // Every entry that isn't 0 less 1: of the table of first placings the start table, where none is apart.
 pub(crate) fn less_one(table: &mut [u32])
     ensures { table.new ≡ less_one table.old }
 {
-    let mut m = 0;
-    while m < table.len() {
-        table[m] = less(table[m]);
-        m += 1;
+    for entry in table.iter_mut() {
+        *entry = entry.saturating_sub(1);
     }
 }

@@ -2,27 +2,29 @@
 -- looked for only where a 16 or a 10 was found. Assumes nothing.
 use Prim.Native.Nat.{ℕ, zero, suc, ◌+◌, ◌≤◌, ◌<◌}
 use native.Mathlib.Omega.{arith}
-use mathlib.Core.Path.{◌≡◌, refl, sym, ◌∙◌, ap}
+use mathlib.Core.Path.{◌≡◌, refl, sym, ◌∙◌, ap, subst}
 use mathlib.Core.Bool.{Bool, true, false, ◌||◌}
 use mathlib.Core.List.{List, [], ◌∷◌}
 use lib.ListN.{length, take}
+use Rattle.std.proofs.Common.{Result, Ok, Err, unwrap_or}
+use Rattle.std.specs.Result.{result_err}
 use Rattle.units.specs.Replies as number
 use Rattle.units.specs.Reply.{Reply, accepted, refused, numbers_reply}
 use Rattle.units.specs.Reference.{least_size}
 use Rattle.records.specs.Sections.{Section, mark, ops, bytes, reference}
-use Rattle.slices.proofs.First.{NoneBefore, least_from_least}
+use Rattle.slices.proofs.First.{NoneBefore}
 use Rattle.slices.proofs.Tests.{or-false}
 use Rattle.layout.specs.Passes.{entry, value_by, size_by}
-use Rattle.layout.specs.Conditions.{section_at, first, IsFirst, Never, short_at, first_short, unplaced_at, apart_at, first_apart, backward_at, first_backward, sum_of}
+use Rattle.layout.specs.Conditions.{section_at, IsFirst, Never, short_at, unplaced_at, apart_at, backward_at, sum_of}
 use Rattle.layout.specs.Conditions.{Missing, missing_at}
 use Rattle.layout.specs.Answer.{Laid, unplaced as layoutUnplaced, layout_numbers}
-use Rattle.layout.proofs.Answers.{short_law, apart_law, backward_law}
 use Rattle.layout.proofs.Apart.{ApartBySums, apart_sums}
-use Rattle.layout.proofs.Least.{first_law, none_found}
 use Rattle.layout.proofs.Moves.{width_by}
 use Rattle.layout.proofs.WidthRule.{width_rule}
 use Rattle.tables.specs.TableTests.{sum_before, too_narrow_at, wrong_at, table_answer, table_reply, accepts, refuses, short_table, unplaced, placed_apart, differs, too_narrow, backward}
-use Rattle.tables.specs.TableWalk.{stops_at}
+use Rattle.tables.specs.MarkMap.{Marked}
+use Rattle.tables.specs.TableWalk.{stops_at, ComparedTo}
+use Rattle.tables.specs.declared.compare.Agreed.{Agreed}
 use Rattle.tables.proofs.TableLaws.{differs_iff, narrow_iff, table_law, right_all, right_before}
 use Rattle.settling.proofs.SectionWords.{NotMark}
 use Rattle.tables.specs.TableAnswers.{Differs, Narrow}
@@ -71,27 +73,27 @@ module _ (table : List ℕ) (ss : List Section) where
 
   -- ---- where the walk stopped
 
-  module _ (at : ℕ) (e : at ≡ first ss (stops_at table ss)) where
+  module _ {at : ℕ} (h : IsFirst ss (stops_at table ss) at) where
     -- neither 7 nor 16 nor 10 before it
-    passed : NoneBefore (stops_at table ss) at
-    passed j l = (least_from_least (stops_at table ss) (length ss) 0).none j (omega arith) (omega (arith, e))
-
-    -- it is one of the sections, or their count
-    pub stop_within : at ≤ length ss
-    stop_within = omega (arith, e, (least_from_least (stops_at table ss) (length ss) 0).within)
-
     pub none_short : NoneBefore (short_at (length table) ss) at
-    none_short j l = (or-false (short_at (length table) ss j) (wrong_at table ss j) (passed j l)).0
+    none_short j l = (or-false (short_at (length table) ss j) (wrong_at table ss j) (h.2 j l)).0
 
     -- where no section is a 7, it is the first 16 or 10
-    pub first_wrong_lem : at < length ss → Never ss (short_at (length table) ss) → IsFirst ss (wrong_at table ss) at
-    first_wrong_lem l never =
-        let q = (first_law ss (stops_at table ss) at).0 (sym e, l) in
-        (l, ap (λ (b : Bool). b || wrong_at table ss at) (sym (never at l)) ∙ q.1, λ j k. (or-false (short_at (length table) ss j) (wrong_at table ss j) (passed j k)).1)
+    pub first_wrong_lem : Never ss (short_at (length table) ss) → IsFirst ss (wrong_at table ss) at
+    first_wrong_lem never =
+        (h.0, ap (λ (b : Bool). b || wrong_at table ss at) (sym (never at h.0)) ∙ h.1, λ j k. (or-false (short_at (length table) ss j) (wrong_at table ss j) (h.2 j k)).1)
 
-    -- or there is none
-    pub none_wrong : length ss ≤ at → Never ss (wrong_at table ss)
-    none_wrong l j k = (or-false (short_at (length table) ss j) (wrong_at table ss j) (passed j (omega arith))).1
+  -- or it went through
+  pub none_wrong : Never ss (stops_at table ss) → Never ss (wrong_at table ss)
+  none_wrong h j k = (or-false (short_at (length table) ss j) (wrong_at table ss j) (h j k)).1
+
+  -- what is known where it stopped, the count of sections where it went through
+  pub walked : (map : List ℕ) (compared : Result Agreed ℕ) (n : ℕ) → length ss ≡ n → ComparedTo table ss map compared
+      → let at = unwrap_or (result_err compared) n in
+      (at ≤ n) × NoneBefore (short_at (length table) ss) at × Marked ss at map
+  walked map (Ok agreed) n e h =
+      (omega arith, λ j l. (or-false (short_at (length table) ss j) (wrong_at table ss j) (h.0 j (omega arith))).0, subst (λ (k : ℕ). Marked ss k map) e h.1)
+  walked map (Err at) n e h = (omega (arith, h.0.0), none_short h.0, h.1)
 
   -- it is a 16 if it is a mark
   wrong_mark : (i m : ℕ) → section_at ss i ≡ mark m → IsFirst ss (wrong_at table ss) i → Differs table ss i
@@ -109,8 +111,8 @@ module _ (table : List ℕ) (ss : List Section) where
   Is reply = reply ≡ table_reply (table_answer table ss)
 
   -- 7
-  pub is_short : (i : ℕ) → i ≡ first_short (length table) ss → i < length ss → Is (refused number.short_table i 0)
-  is_short i e l = sym (ap table_reply ((table_law table ss (refuses (short_table i))).1 ((short_law (length table) ss i).0 (sym e, l))))
+  pub is_short : (i : ℕ) → IsFirst ss (short_at (length table) ss) i → Is (refused number.short_table i 0)
+  is_short i h = sym (ap table_reply ((table_law table ss (refuses (short_table i))).1 h))
 
   module _ (short : Never ss (short_at (length table) ss)) where
     -- 8, 17 or 18
@@ -119,8 +121,8 @@ module _ (table : List ℕ) (ss : List Section) where
 
     module _ (placed : Never ss (unplaced_at ss)) where
       -- 9
-      pub is_apart : (i : ℕ) → i ≡ first_apart ss → i < length ss → Is (refused number.placed_apart i 0)
-      is_apart i e l = sym (ap table_reply ((table_law table ss (refuses (placed_apart i))).1 (short, placed, (apart_law ss i).0 (sym e, l))))
+      pub is_apart : (i : ℕ) → IsFirst ss (apart_at ss) i → Is (refused number.placed_apart i 0)
+      is_apart i h = sym (ap table_reply ((table_law table ss (refuses (placed_apart i))).1 (short, placed, h)))
 
       module _ (together : Never ss (apart_at ss)) (i : ℕ) (h : IsFirst ss (wrong_at table ss) i) where
         -- 16: the section is a mark
@@ -133,14 +135,13 @@ module _ (table : List ℕ) (ss : List Section) where
 
       module _ (right : Never ss (wrong_at table ss)) where
         -- 12
-        pub is-backward : (i : ℕ) → i ≡ first_backward table ss → i < length ss → Is (refused number.backward i 0)
-        is-backward i e l =
+        pub is-backward : (i : ℕ) → IsFirst ss (backward_at table ss) i → Is (refused number.backward i 0)
+        is-backward i h =
             let q = (right_all table ss).0 right in
-            sym (ap table_reply ((table_law table ss (refuses (backward i))).1 ((short, placed, right_together right), q.0, q.1, (backward_law table ss i).0 (sym e, l))))
+            sym (ap table_reply ((table_law table ss (refuses (backward i))).1 ((short, placed, right_together right), q.0, q.1, h)))
 
         -- accepted
-        pub is-agreed : (n i : ℕ) → n ≡ sum_of (size_by (entry table)) ss → i ≡ first_backward table ss → length ss ≤ i → Is (accepted (record { length = n; passes = 0 }))
-        unfolding first_backward
-        is-agreed n i e d l =
+        pub is-agreed : (n : ℕ) → n ≡ sum_of (size_by (entry table)) ss → Never ss (backward_at table ss) → Is (accepted (record { length = n; passes = 0 }))
+        is-agreed n e h =
             let q = (right_all table ss).0 right in
-            sym (ap table_reply ((table_law table ss (accepts n)).1 ((short, placed, right_together right), q.0, q.1, none_found ss (backward_at table ss) i (length ss) d refl l, e)))
+            sym (ap table_reply ((table_law table ss (accepts n)).1 ((short, placed, right_together right), q.0, q.1, h, e)))

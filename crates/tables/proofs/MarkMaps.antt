@@ -10,7 +10,7 @@ use mathlib.Core.Logic.{◌⊎◌, inl, inr, ⊎_elim}
 use mathlib.Core.List.{List, [], ◌∷◌, ◌++◌}
 use lib.Bits.{bit_or, or_shr, or_mod, or_zero_r, shifted_even}
 use lib.Dec.{eqb}
-use lib.ListN.{length, get_or, set, take, replicate, length-set, length-replicate}
+use lib.ListN.{length, get_or, set, take, replicate, length-set}
 use lib.Pow.{pow-lt, pow_pos, pow-add, shl-shr}
 use lib.Seq.{get_or-set_same, get_or-set_other, take-suc}
 use borrow.Author.Tests.{eqb-true, eqb-false, eq-eqb}
@@ -150,11 +150,6 @@ module _ (ss : List Section) (i : ℕ) (map : List ℕ) (l : i < length ss) (h :
       none (bytes bs) o = refl
       none (reference r) o = refl
 
--- ---- a map as it is made
-
-module _ (n : ℕ) (map : List ℕ) (made : map ≡ replicate n 0) where
-  pub made_length : length map ≡ n
-  made_length = ap length made ∙ length-replicate {A = ℕ} n 0
-
-  pub made_empty : map ≡ replicate (length map) 0
-  made_empty = made ∙ ap (λ (k : ℕ). replicate k 0) (sym made_length)
+-- a map of so many zeros
+pub replicated : (n : ℕ) (map : List ℕ) → length map ≡ n → map ≡ replicate n 0 → map ≡ replicate (length map) 0
+replicated n map long e = rw long e

@@ -22,15 +22,16 @@ use Rattle.records.specs.declared.record.StoredSection.{StoredSection}
 use Rattle.layout.specs.Conditions.{section_at, Never, names_some, placed, short_at, unplaced_at, first_unplaced, has_bytes, apart_at}
 use Rattle.layout.specs.ConditionLaws.{HasBytes, BytesBetween}
 use Rattle.layout.proofs.Apart.{placed_law}
+use Rattle.layout.proofs.Least.{never_law}
 use Rattle.layout.proofs.ConditionLaws.{bytes_law, condition_laws}
-use Rattle.settling.specs.SectionWalk.{Fitting, MarksIn}
+use Rattle.settling.specs.SectionWalk.{sections_of, Fitting, MarksIn}
 use Rattle.settling.proofs.SectionWords.{Words, mark_words, ops_words, data_words, direct_words, delta_words, named_words}
 use Rattle.settling.proofs.Sections.{Turn, turn, turn_in}
 use Rattle.settling.proofs.FirstPlacings.{names_same, none_unplaced}
 use Rattle.tables.specs.MarkMap.{digit, in_map, Marked, Covers}
 use Rattle.tables.specs.TableWalk.{unplaced_by, bytes_words}
 use Rattle.tables.proofs.MarkMaps.{marked_start}
-use Rattle.tables.proofs.Turns.{turn_max, marks_covered}
+use Rattle.tables.proofs.Turns.{count, turn_max, marks_covered}
 
 -- ---- a section by its words
 
@@ -53,10 +54,10 @@ module _ {x : StoredSection} where
   bytes_words_lem (delta_words l s p g) = rw (ne_eqb x.kind mark_kind (λ e. omega arith), le-leb direct_kind x.kind (omega arith))
 
 -- where a table has an entry for each mark, a map that covers the table has room for the marks of each section
-pub turn_covered : (store : Assembler) (held words : List ℕ) (n : ℕ) (map : List ℕ) → Fitting store held words n → Covers n map
-    → (i : ℕ) (x : StoredSection) → i < store.sections → x ≡ words_at words_per_section words i → MarksIn (8 * length map) x
-turn_covered store held words n map f covers i x l e =
-    marks_covered n map x covers (turn_in store held words n f i x (turn store held words f.whole i x l e)) (turn_max store held words f.whole i x l e)
+pub turn_covered : (store : Assembler) (held words : List ℕ) (n room : ℕ) → Fitting store held words n → Covers n room
+    → (i : ℕ) (x : StoredSection) → i < store.sections → x ≡ words_at words_per_section words i → MarksIn (8 * room) x
+turn_covered store held words n room f covers i x l e =
+    marks_covered n room x covers (turn_in store held words n f i x (turn store held words f.whole i x l e)) (turn_max store held words f.whole i x l e)
 
 -- ---- 8, 17 and 18
 
@@ -87,8 +88,17 @@ module _ (ss : List Section) (n : ℕ) (map : List ℕ) (h : Marked ss n map) (c
       named_words out t.words ∙ names_same (8 * length map) out absent (section_at ss i) same (named_in (8 * length map) a t.words)
 
   -- where every mark that a table of length k has an entry for is in the map, it is never said
-  pub all_in : (k : ℕ) → Never ss (short_at k ss) → ((m : ℕ) → m < k → in_map map m ≡ true) → length ss ≡ first_unplaced ss
-  all_in k in_table every = none_unplaced k ss in_table (λ m l. sym (in_placed m (in_room map m (every m l))) ∙ every m l)
+  pub all_in : (k : ℕ) → Never ss (short_at k ss) → ((m : ℕ) → m < k → in_map map m ≡ true) → Never ss (unplaced_at ss)
+  unfolding first_unplaced
+  all_in k in_table every = (never_law ss (unplaced_at ss)).0 (sym (none_unplaced k ss in_table (λ m l. sym (in_placed m (in_room map m (every m l))) ∙ every m l)))
+
+-- so of a section's words in an undamaged store, whose marks the table has entries for
+pub code_unplaced : (store : Assembler) (held words : List ℕ) (n room : ℕ) (map : List ℕ) → Fitting store held words n → Covers n room → length map ≡ room
+    → Marked (sections_of store held words) store.sections map → (i : ℕ) (x : StoredSection) → i < store.sections → x ≡ words_at words_per_section words i
+    → unplaced_by map x ≡ unplaced_at (sections_of store held words) i
+code_unplaced store held words n room map f covers long h i x l e =
+    unplaced_by_lem _ _ map h (count store held words) i x (turn store held words f.whole i x l e)
+    (subst (λ (k : ℕ). MarksIn (8 * k) x) (sym long) (turn_covered store held words n room f covers i x l e))
 
 -- ---- 9
 

@@ -1,17 +1,27 @@
 -- One turn of the walks over a store: where a section's marks are in the map, and what 7, 16 and 10 say of the section whose words were
 -- read. Assumes nothing.
+<<<<<<< HEAD
+use Prim.Native.Nat.{ℕ, ◌+◌, ◌*◌, ◌<◌}
+=======
 use Rattle.std.specs.Prelude.{None, Option, Some}
 use Prim.Native.Nat.{ℕ, ◌+◌, ◌*◌, ◌≤◌, ◌<◌}
+>>>>>>> ea3065ee49c8fbf92c3af1a3b41954565875ad49
 use native.Mathlib.Omega.{arith}
 use mathlib.Core.Path.{◌≡◌, refl, sym, ◌∙◌, ap, subst}
 use mathlib.Core.Bool.{Bool, true, false, not, ◌||◌, true≢false}
 use mathlib.Core.List.{List}
-use mathlib.Core.Logic.{◌⊎◌, inl, inr}
+use mathlib.Core.Logic.{inl, inr}
 use lib.ListN.{length}
 use borrow.Author.Tests.{eq-eqb, ne_eqb}
+<<<<<<< HEAD
+use Rattle.std.proofs.Common.{Option, Some, None}
+use Rattle.slices.proofs.First.{NoneBefore, search_next}
+use Rattle.units.specs.declared.SizeFor.TheVariants.{Bytes, TooNarrow}
+=======
 use Rattle.records.specs.declared.record.AsmSection.{AsmSection}
+>>>>>>> ea3065ee49c8fbf92c3af1a3b41954565875ad49
 use Rattle.units.proofs.Forms.{size_found, narrow_found}
-use Rattle.records.specs.Record.{max_mark, read_section}
+use Rattle.records.specs.Record.{read_section}
 use Rattle.records.specs.Damage.{unreadable}
 use Rattle.records.specs.Store.{store_of, words_per_section, words_at}
 use Rattle.records.specs.Sections.{Section, mark, ops, bytes, reference}
@@ -21,12 +31,16 @@ use Rattle.undamaged.proofs.Soundness.{undamaged_iff}
 use Rattle.undamaged.proofs.Reading.{Reads, is_damaged_lem, is_mark, is_ops_lem, is_data, is_direct, is_delta_lem, reads}
 use Rattle.layout.specs.Passes.{entry, value_by, size_by, unlike}
 use Rattle.layout.specs.Conditions.{section_at, places_some, short_at, backward_at}
-use Rattle.settling.specs.SectionWalk.{Whole, MarksIn}
+use Rattle.settling.specs.SectionWalk.{sections_of, Whole, MarksIn}
 use Rattle.settling.proofs.SectionWords.{size_section, NotMark}
-use Rattle.settling.proofs.Sections.{sum_next}
+use Rattle.settling.proofs.Sections.{decode_count, sum_next}
 use Rattle.tables.specs.MarkMap.{Covers}
 use Rattle.tables.specs.TableTests.{sum_before, differs_at, narrow_by, too_narrow_at, wrong_at}
-use Rattle.tables.specs.TableWalk.{stops_at}
+use Rattle.tables.specs.TableWalk.{Found, earlier, stops_at}
+
+-- as many sections as are counted
+pub count : (store : Assembler) (held words : List ℕ) → length (sections_of store held words) ≡ store.sections
+count store held words = decode_count words_per_section (store_of store held words)
 
 -- ---- marks
 
@@ -48,16 +62,34 @@ pub turn_max : (store : Assembler) (held words : List ℕ) → Whole store held 
 turn_max store held words u i x l e =
     subst (MarksIn 1048576) (sym e) (max_in _ (((undamaged_iff words_per_section (store_of store held words)).0 u).readable i l))
 
--- the marks that a table of length n has entries for are in a map that covers them
-pub marks_covered : (n : ℕ) (map : List ℕ) (x : StoredSection) → Covers n map → MarksIn n x → MarksIn 1048576 x → MarksIn (8 * length map) x
-marks_covered n map x (inl h) a b =
+-- the marks that a table of length n has entries for are in a map of so many bytes that covers them
+pub marks_covered : (n room : ℕ) (x : StoredSection) → Covers n room → MarksIn n x → MarksIn 1048576 x → MarksIn (8 * room) x
+marks_covered n room x (inl h) a b =
     record { placed = λ e. omega (arith, a.placed e); first = λ e. omega (arith, a.first e); second = λ e. omega (arith, a.second e) }
-marks_covered n map x (inr h) a b =
+marks_covered n room x (inr h) a b =
     record { placed = λ e. omega (arith, b.placed e); first = λ e. omega (arith, b.first e); second = λ e. omega (arith, b.second e) }
 
--- a map of the same length covers the same
-pub covers_same : (n : ℕ) (map map' : List ℕ) → length map' ≡ length map → Covers n map → Covers n map'
-covers_same n map map' e h = subst (λ (k : ℕ). (n ≤ 8 * k) ⊎ (max_mark < 8 * k)) (sym e) h
+-- ---- the first of the numbers before i that a test holds of, if there is one
+
+abbrev pub SoFar : (ℕ → Bool) → ℕ → Option ℕ → Type 0
+SoFar test i (Some j) = (j < i) × (test j ≡ true) × NoneBefore test j
+SoFar test i None = NoneBefore test i
+
+-- one number more
+pub so_next : (test : ℕ → Bool) (i : ℕ) (found found' : Option ℕ) (q : Bool) → SoFar test i found → test i ≡ q → found' ≡ earlier found i q → SoFar test (i + 1) found'
+so_next test i (Some j) found' q h e d = subst (SoFar test (i + 1)) (sym d) (omega (arith, h.0), h.1, h.2)
+so_next test i None found' true h e d = subst (SoFar test (i + 1)) (sym d) (omega arith, e, h)
+so_next test i None found' false h e d = subst (SoFar test (i + 1)) (sym d) (search_next test i h e)
+
+-- it isn't one
+pub so_same : (test : ℕ → Bool) (i : ℕ) (found found' : Option ℕ) → SoFar test i found → test i ≡ false → found' ≡ found → SoFar test (i + 1) found'
+so_same test i (Some j) found' h e d = subst (SoFar test (i + 1)) (sym d) (omega (arith, h.0), h.1, h.2)
+so_same test i None found' h e d = subst (SoFar test (i + 1)) (sym d) (search_next test i h e)
+
+-- of all sections
+pub so_found : (ss : List Section) (test : ℕ → Bool) (i : ℕ) (found : Option ℕ) → SoFar test i found → i ≡ length ss → Found ss test found
+so_found ss test i (Some j) h e = (omega (arith, h.0), h.1, h.2)
+so_found ss test i None h e = λ j l. h j (omega arith)
 
 -- ---- 7, 16 and 10 of section i, the sum of sizes before it being what the walk has
 

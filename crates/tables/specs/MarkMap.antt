@@ -21,9 +21,9 @@ with_mark map m = set map (m / 8) (bit_or (get_or map (m / 8) 0) (2 ^ (m % 8)))
 abbrev pub Marked : List Section → ℕ → List ℕ → Type 0
 Marked ss i map = (m : ℕ) → m < 8 * length map → in_map map m ≡ placed (take i ss) m
 
--- it has room for every mark below n, or for every mark number
-abbrev pub Covers : ℕ → List ℕ → Type 0
-Covers n map = (n ≤ 8 * length map) ⊎ (max_mark < 8 * length map)
+-- a map of so many bytes has room for every mark below n, or for every mark number
+abbrev pub Covers : ℕ → ℕ → Type 0
+Covers n bytes = (n ≤ 8 * bytes) ⊎ (max_mark < 8 * bytes)
 
 -- where it is answered so, every mark below a limit is in the map
 abbrev pub AllIn : List ℕ → ℕ → Bool → Type 0

@@ -1,13 +1,13 @@
 -- Private to the tests: what their walks ask and promise, over the decoded sections. No public contract cites it. Assumes nothing.
-use Rattle.std.specs.Prelude.{ℕ, ◌-◌, ◌≤◌, ◌<◌, ◌≡◌, Bool, false, not, ◌&&◌, ◌||◌, List, leb, ltb, eqb, length}
+use Rattle.std.specs.Prelude.{ℕ, ◌-◌, ◌<◌, ◌≡◌, Bool, false, cond, not, ◌&&◌, ◌||◌, List, Option, Some, None, Result, Ok, Err, leb, ltb, eqb, length}
 use Rattle.records.specs.Record.{mark_kind, direct_kind}
 use Rattle.records.specs.Sections.{Section}
 use Rattle.records.specs.declared.record.StoredSection.{StoredSection}
 use Rattle.layout.specs.Passes.{entry, size_by}
-use Rattle.layout.specs.Conditions.{first, short_at, first_backward, sum_of}
+use Rattle.layout.specs.Conditions.{IsFirst, Never, short_at, backward_at, sum_of}
 use Rattle.tables.specs.TableTests.{wrong_at}
 use Rattle.tables.specs.MarkMap.{in_map, Marked}
-use Rattle.tables.specs.declared.compare.Compared.{Compared}
+use Rattle.tables.specs.declared.compare.Agreed.{Agreed}
 
 -- no number before i has a property
 abbrev pub NoneTo : (ℕ → Bool) → ℕ → Type 0
@@ -17,12 +17,22 @@ NoneTo test i = (j : ℕ) → j < i → test j ≡ false
 abbrev pub stops_at : List ℕ → List Section → ℕ → Bool
 stops_at table ss i = short_at (length table) ss i || wrong_at table ss i
 
+-- what a search answers: the first section with a property, or that none has it
+abbrev pub Found : List Section → (ℕ → Bool) → Option ℕ → Type 0
+Found ss test (Some i) = IsFirst ss test i
+Found ss test None = Never ss test
+
+-- what was found, or else section i if it is one
+abbrev pub earlier : Option ℕ → ℕ → Bool → Option ℕ
+earlier (Some j) i is_one = Some j
+earlier None i is_one = cond is_one (Some i) None
+
 -- what the walk answers, and the map that it leaves
-pub record ComparedTo (table : List ℕ) (ss : List Section) (compared : Compared) (map : List ℕ) : Type 0 where
-  pub stopped : compared.stopped ≡ first ss (stops_at table ss)
-  pub marked : Marked ss compared.stopped map
-  pub size : length ss ≤ compared.stopped → compared.length ≡ sum_of (size_by (entry table)) ss
-  pub backward : length ss ≤ compared.stopped → compared.backward ≡ first_backward table ss
+abbrev pub ComparedTo : List ℕ → List Section → List ℕ → Result Agreed ℕ → Type 0
+ComparedTo table ss map (Ok agreed) =
+    Never ss (stops_at table ss) × Marked ss (length ss) map × (agreed.length ≡ sum_of (size_by (entry table)) ss)
+    × Found ss (backward_at table ss) agreed.backward
+ComparedTo table ss map (Err at) = IsFirst ss (stops_at table ss) at × Marked ss at map
 
 -- 8, 17 or 18, of a section by its words
 unfoldable pub unplaced_by : List ℕ → StoredSection → Bool

@@ -2,74 +2,67 @@
 ghost use Rattle.std.specs.Prelude.{◌≡◌, length, replicate};
 ghost use Rattle.settling.specs.SectionWalk.{sections_of, Whole};
 ghost use Rattle.tables.specs.MarkMap.{Covers};
-ghost use Rattle.tables.specs.TableWalk.{ComparedTo};
+ghost use Rattle.tables.specs.TableWalk.{ComparedTo, earlier};
 
-use crate::map::put_in_map;
+use crate::map::MarkMap;
 use crate::section::{entry_of, is_backward, section_words, size_of};
 use records::{Assembler, kind};
-use settling::{earlier, is_short};
+use settling::is_short;
 use units::{MarkId, SizeFor};
 
-// Where the walk stopped: the first section that is a 7, a 16 or a 10, the count of sections if there is none. If there is none, the sum of
-// sizes, and the first backward delta, the count of sections if there is none.
+// What the walk tells of a table that agrees with the sections: the sum of sizes, and the first backward delta.
 #[derive(Clone, Copy)]
-pub(crate) struct Compared {
-    pub(crate) stopped: u32,
+pub(crate) struct Agreed {
     pub(crate) length: u32,
-    pub(crate) backward: u32,
+    pub(crate) backward: Option<u32>,
 }
 
-// The walk; the marks placed before the section at which it stopped are put into the map.
-pub(crate) fn compare(
+// The walk. Err: the first section that is a 7, a 16 or a 10, with the marks placed before it put into the map.
+pub(crate) fn compare<const BYTES: usize>(
     store: Assembler,
     bytes: &[u8],
     words: &[u32],
     table: &[u32],
-    map: &mut [u8],
-) -> Compared
+    map: &mut MarkMap<BYTES>,
+) -> Result<Agreed, u32>
     requires whole { Whole store bytes.now words.now }
-    requires covers { Covers (length table.now) map.old }
-    requires map_value { map.old ≡ replicate (length map.old) 0 }
-    ensures { ComparedTo table.now (sections_of store bytes.now words.now) result map.new }
+    requires covers { Covers (length table.now) BYTES }
+    requires empty { map.old.bits ≡ replicate BYTES 0 }
+    ensures { ComparedTo table.now (sections_of store bytes.now words.now) map.new.bits result }
 {
     let limit = table.len();
-    let mut i: u32 = 0;
     let mut sum: u32 = 0;
-    let mut backward = store.sections;
-    while i < store.sections {
+    let mut backward = None;
+    for i in 0..store.sections {
         let section = section_words(words, i as usize);
         if is_short(section, limit) {
-            return Compared {
-                stopped: i,
-                length: sum,
-                backward,
-            };
+            return Err(i);
         }
         if section.kind == kind::MARK {
             if entry_of(table, MarkId(section.first)) != sum {
-                return Compared {
-                    stopped: i,
-                    length: sum,
-                    backward,
-                };
+                return Err(i);
             }
-            put_in_map(map, MarkId(section.first));
+            map.insert(MarkId(section.first));
         } else {
             let SizeFor::Bytes(n) = size_of(section, table) else {
-                return Compared {
-                    stopped: i,
-                    length: sum,
-                    backward,
-                };
+                return Err(i);
             };
             sum += n;
             backward = earlier(backward, i, is_backward(section, table));
         }
-        i += 1;
     }
-    Compared {
-        stopped: i,
+    Ok(Agreed {
         length: sum,
         backward,
+    })
+}
+
+// What was found, or else section i if it is one.
+fn earlier(found: Option<u32>, i: u32, is_one: bool) -> Option<u32>
+    ensures { result ≡ earlier found i is_one }
+{
+    if found.is_none() && is_one {
+        return Some(i);
     }
+    found
 }

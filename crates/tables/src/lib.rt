@@ -8,7 +8,7 @@ mod map;
 mod search;
 mod section;
 
-ghost use Rattle.std.specs.Prelude.{◌≡◌, ◌≤◌, length, replicate};
+ghost use Rattle.std.specs.Prelude.{◌≡◌, ◌^◌, ◌≤◌, ◌<◌, length, replicate};
 ghost use Rattle.records.specs.Store.{store_of, words_per_section};
 ghost use Rattle.layout.specs.Conditions.{IsFirst, Never, unplaced_at};
 ghost use Rattle.settling.specs.Settle.{settled_reply};
@@ -18,7 +18,7 @@ ghost use Rattle.tables.specs.TableAnswers.{AcceptsEnough};
 ghost use Rattle.tables.specs.MarkMap.{Covers, Marked};
 
 use compare::compare;
-use map::{clear_map, in_map, large_map, small_map};
+use map::MarkMap;
 use records::{Assembler, Soundness, check_store, kind};
 use search::{first_apart, first_short, first_unplaced, put_marks};
 use section::section_words;
@@ -41,117 +41,107 @@ pub fn check_table(store: Assembler, bytes: &[u8], words: &[u32], table: &[u32])
         Soundness::Damaged(section) => Settled::Refused(Refusal::Damaged { section }),
         Soundness::Sound => {
             if table.len() <= SMALL {
-                return check_small(store, bytes, words, table);
+                return check_in::<2048>(store, bytes, words, table);
             }
-            check_large(store, bytes, words, table)
+            check_in::<131072>(store, bytes, words, table)
         }
     }
 }
 
-// An undamaged store and a table of at most 16,384 entries.
-fn check_small(store: Assembler, bytes: &[u8], words: &[u32], table: &[u32]) -> Settled
+// An undamaged store, with a map of so many bytes, enough for the marks that the table has entries for or for every mark number.
+fn check_in<const BYTES: usize>(
+    store: Assembler,
+    bytes: &[u8],
+    words: &[u32],
+    table: &[u32],
+) -> Settled
     requires whole { Whole store bytes.now words.now }
-    requires table_len_bound { length table.now ≤ 16384 }
+    requires covers { Covers (length table.now) BYTES }
+    requires fits { BYTES < 2 ^ 63 }
     ensures { settled_reply result
         ≡ table_reply (table_answer table.now (sections_of store bytes.now words.now)) }
 {
-    let mut map = small_map();
-    check_whole(store, bytes, words, table, &mut map)
-}
-
-// Any table.
-fn check_large(store: Assembler, bytes: &[u8], words: &[u32], table: &[u32]) -> Settled
-    requires { Whole store bytes.now words.now }
-    ensures { settled_reply result
-        ≡ table_reply (table_answer table.now (sections_of store bytes.now words.now)) }
-{
-    let mut map = large_map();
+    let mut map = MarkMap::<BYTES>::new();
     check_whole(store, bytes, words, table, &mut map)
 }
 
 // 7; 8, 17 or 18; 9; 16 or 10; and 12, of an undamaged store; the map is of no mark. Where none of them is the answer the sections are
 // walked once, and once more for 8, 17 and 18 unless every mark that the table has room for is placed.
-fn check_whole(
+fn check_whole<const BYTES: usize>(
     store: Assembler,
     bytes: &[u8],
     words: &[u32],
     table: &[u32],
-    map: &mut [u8],
+    map: &mut MarkMap<BYTES>,
 ) -> Settled
     requires whole { Whole store bytes.now words.now }
-    requires covers { Covers (length table.now) map.old }
-    requires map_value { map.old ≡ replicate (length map.old) 0 }
+    requires covers { Covers (length table.now) BYTES }
+    requires empty { map.old.bits ≡ replicate BYTES 0 }
     ensures { settled_reply result
         ≡ table_reply (table_answer table.now (sections_of store bytes.now words.now)) }
 {
     let compared = compare(store, bytes, words, table, map);
-    let stopped = compared.stopped;
-    let short = first_short(store, bytes, words, table.len(), stopped);
-    if short < store.sections {
-        return Settled::Refused(Refusal::ShortTable { section: short });
+    let stopped = compared.err().unwrap_or(store.sections);
+    if let Some(section) = first_short(store, bytes, words, table.len(), stopped) {
+        return Settled::Refused(Refusal::ShortTable { section });
     }
     put_marks(store, bytes, words, table, stopped, store.sections, map);
-    let unplaced = first_unplaced(store, bytes, words, table, map);
-    if unplaced < store.sections {
-        return refuse_unplaced(store, bytes, words, table, unplaced, map);
+    if let Some(at) = first_unplaced(store, bytes, words, table, map) {
+        return refuse_unplaced(store, bytes, words, table, at, map);
     }
-    if stopped < store.sections {
-        return refuse_wrong(store, bytes, words, table, stopped, map);
-    }
-    let backward = compared.backward;
-    if backward < store.sections {
-        return Settled::Refused(Refusal::Backward {
-            section: backward,
-            passes: 0,
-        });
+    let agreed = match compared {
+        Ok(agreed) => agreed,
+        Err(at) => return refuse_wrong(store, bytes, words, table, at, map),
+    };
+    if let Some(section) = agreed.backward {
+        return Settled::Refused(Refusal::Backward { section, passes: 0 });
     }
     Settled::LaidOut {
-        length: compared.length,
+        length: agreed.length,
         passes: 0,
     }
 }
 
 // 8, 17 or 18: the section that the search found is read once more for which mark it misses.
-fn refuse_unplaced(
+fn refuse_unplaced<const BYTES: usize>(
     store: Assembler,
     bytes: &[u8],
     words: &[u32],
     table: &[u32],
     at: u32,
-    map: &[u8],
+    map: &MarkMap<BYTES>,
 ) -> Settled
     requires fitting { Fitting store bytes.now words.now (length table.now) }
-    requires covers { Covers (length table.now) map.now }
-    requires marked { Marked (sections_of store bytes.now words.now) store.sections map.now }
+    requires covers { Covers (length table.now) BYTES }
+    requires marked { Marked (sections_of store bytes.now words.now) store.sections map.now.bits }
     requires first { IsFirst (sections_of store bytes.now words.now) (unplaced_at (sections_of store bytes.now words.now)) at }
     ensures { settled_reply result
         ≡ table_reply (table_answer table.now (sections_of store bytes.now words.now)) }
 {
     let section = section_words(words, at as usize);
-    let start_placed = in_map(map, MarkId(section.first));
+    let start_placed = map.contains(MarkId(section.first));
     Settled::Refused(missing_refusal(section, start_placed, at))
 }
 
 // 9, or else 16 or 10 at the section that the walk found.
-fn refuse_wrong(
+fn refuse_wrong<const BYTES: usize>(
     store: Assembler,
     bytes: &[u8],
     words: &[u32],
     table: &[u32],
     at: u32,
-    map: &mut [u8],
+    map: &mut MarkMap<BYTES>,
 ) -> Settled
     requires fitting { Fitting store bytes.now words.now (length table.now) }
-    requires covers { Covers (length table.now) map.old }
+    requires covers { Covers (length table.now) BYTES }
     requires never { Never (sections_of store bytes.now words.now) (unplaced_at (sections_of store bytes.now words.now)) }
     requires first { IsFirst (sections_of store bytes.now words.now) (wrong_at table.now (sections_of store bytes.now words.now)) at }
     ensures { settled_reply result
         ≡ table_reply (table_answer table.now (sections_of store bytes.now words.now)) }
 {
-    clear_map(map);
-    let apart = first_apart(store, bytes, words, table, map);
-    if apart < store.sections {
-        return Settled::Refused(Refusal::PlacedApart { section: apart });
+    map.clear();
+    if let Some(section) = first_apart(store, bytes, words, table, map) {
+        return Settled::Refused(Refusal::PlacedApart { section });
     }
     let section = section_words(words, at as usize);
     if section.kind == kind::MARK {

@@ -5,67 +5,65 @@ ghost use Rattle.tables.specs.MarkMap.{in_map, with_mark, AllIn};
 use records::Assembler;
 use units::MarkId;
 
-// A map of no mark, for the marks below 16,384.
-pub(crate) fn small_map() -> [u8; 2048]
-    ensures { result ≡ replicate 2048 0 }
-{
-    [0u8; 2048]
+// Which marks are in it: of the marks below eight times its bytes, all that it has room for.
+#[derive(Drop)]
+pub(crate) struct MarkMap<const BYTES: usize> {
+    bits: [u8; BYTES],
+    ghost whole: { length bits ≡ BYTES },
 }
 
-// One for every mark number.
-pub(crate) fn large_map() -> [u8; 131072]
-    ensures { result ≡ replicate 131072 0 }
-{
-    [0u8; 131072]
-}
-
-// Whether the mark is in the map.
-pub(crate) fn in_map(map: &[u8], mark: MarkId) -> bool
-    requires { «mark».0 < 8 * length map.now }
-    ensures { result ≡ in_map map.now «mark».0 }
-{
-    let at = (mark.0 / 8) as usize;
-    let k = (mark.0 % 8) as u8;
-    (map[at] >> k) % 2 == 1
-}
-
-// Puts the mark into the map.
-pub(crate) fn put_in_map(map: &mut [u8], mark: MarkId)
-    requires { «mark».0 < 8 * length map.old }
-    ensures { map.new ≡ with_mark map.old «mark».0 }
-{
-    let at = (mark.0 / 8) as usize;
-    let k = (mark.0 % 8) as u8;
-    map[at] = map[at] | (1u8 << k);
-}
-
-// Takes every mark out of the map.
-pub(crate) fn clear_map(map: &mut [u8])
-    ensures { map.new ≡ replicate (length map.old) 0 }
-{
-    let mut i = 0;
-    while i < map.len() {
-        map[i] = 0;
-        i += 1;
+impl<const BYTES: usize> MarkMap<BYTES> {
+    // A map of no mark.
+    pub(crate) fn new() -> Self
+        ensures { result.bits ≡ replicate BYTES 0 }
+    {
+        MarkMap { bits: [0u8; BYTES] }
     }
-}
 
-// That every mark below a limit is in the map; never said of a limit past the mark numbers or past the map.
-pub(crate) fn all_in_map(map: &[u8], limit: usize) -> bool
-    ensures { AllIn map.now limit result }
-{
-    if (Assembler::MAX_MARK as usize) + 1 < limit {
-        return false;
+    // Whether the mark is in it.
+    #[tactic(auto, unfolding(crate::specs::MarkMap::in_map))]
+    pub(crate) fn contains(&self, mark: MarkId) -> bool
+        requires { «mark».0 < 8 * BYTES }
+        ensures { result ≡ in_map self.now.bits «mark».0 }
+    {
+        let at = (mark.0 / 8) as usize;
+        let k = (mark.0 % 8) as u8;
+        (self.bits[at] >> k) % 2 == 1
     }
-    if map.len() < (limit + 7) / 8 {
-        return false;
+
+    // Puts the mark into it.
+    #[tactic(auto, using(crate::proofs::MarkMaps::shifted), unfolding(crate::specs::MarkMap::with_mark))]
+    pub(crate) fn insert(&mut self, mark: MarkId)
+        requires { «mark».0 < 8 * BYTES }
+        ensures { self.new.bits ≡ with_mark self.old.bits «mark».0 }
+    {
+        let at = (mark.0 / 8) as usize;
+        let k = (mark.0 % 8) as u8;
+        self.bits[at] = self.bits[at] | (1u8 << k);
     }
-    let mut m: usize = 0;
-    while m < limit {
-        if !in_map(map, MarkId(m as u32)) {
+
+    // Takes every mark out of it.
+    pub(crate) fn clear(&mut self)
+        ensures { self.new.bits ≡ replicate BYTES 0 }
+    {
+        self.bits.fill(0);
+    }
+
+    // That every mark below a limit is in it; never said of a limit past the mark numbers or past the map.
+    pub(crate) fn has_all_below(&self, limit: usize) -> bool
+        ensures { AllIn self.now.bits limit result }
+    {
+        if (Assembler::MAX_MARK as usize) + 1 < limit {
             return false;
         }
-        m += 1;
+        if BYTES < limit.div_ceil(8) {
+            return false;
+        }
+        for m in 0..limit {
+            if !self.contains(MarkId(m as u32)) {
+                return false;
+            }
+        }
+        true
     }
-    true
 }

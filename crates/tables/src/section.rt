@@ -43,6 +43,7 @@ pub(crate) fn span_length(section: StoredSection) -> u32
 }
 
 // A reference's value by the table; an end below its start reads 0.
+#[tactic(auto, using(std::proofs::lemmas::Bool::Decides::nat_tests), unfolding(settling::specs::SectionWalk::value_words))]
 fn value_of(section: StoredSection, table: &[u32]) -> u32
     requires { MarksIn (length table.now) section × (direct_kind ≤ section.kind) }
     ensures { result ≡ value_words table.now section }
@@ -59,6 +60,7 @@ fn value_of(section: StoredSection, table: &[u32]) -> u32
 }
 
 // The size of a section that isn't a mark, by the table; or too narrow.
+#[tactic(auto, using(std::proofs::lemmas::Bool::Decides::nat_tests), unfolding(settling::specs::SectionWalk::size_words))]
 pub(crate) fn size_of(section: StoredSection, table: &[u32]) -> SizeFor
     requires { MarksIn (length table.now) section × (section.kind < direct_kind → section.first ≤ section.second) }
     ensures { result ≡ size_words table.now section }
@@ -70,6 +72,7 @@ pub(crate) fn size_of(section: StoredSection, table: &[u32]) -> SizeFor
 }
 
 // 12, for one section.
+#[tactic(auto, using(std::proofs::lemmas::Bool::Decides::nat_tests), unfolding(settling::specs::SectionWalk::backward_words))]
 pub(crate) fn is_backward(section: StoredSection, table: &[u32]) -> bool
     requires { MarksIn (length table.now) section }
     ensures { result ≡ backward_words table.now section }

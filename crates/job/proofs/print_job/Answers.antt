@@ -10,7 +10,7 @@ pub returns-clause-written : goal.returns-clause-written
 returns-clause-written g c =
     subst
     (λ bytes. OnOk c.write_all.result (Appends (g.W.Write.contents c.args.out.now) (g.W.Write.contents c.write_all.new.self) bytes))
-    (text_of_job c.args.job.now c.args.text.now _ _ _ c.requires c.in-Ran.ensures.answer c.in-Ran.ensures.text)
+    (text_of_job c.args.job.now c.args.text.now _ _ _ c.requires c.in-Ok.ensures.answer c.in-Ok.ensures.text)
     c.write_all.ensures.bytes
 
 -- a front of the buffer that is p, found by p's length
@@ -19,5 +19,5 @@ front n text p within is = ap (λ k. take k text) (ap length (sym is) ∙ length
 
 pub returns-clause-held : goal.returns-clause-held
 returns-clause-held g c =
-    front c.in-Ran.text_length c.write_text.new.text _ c.in-Ran.ensures.within
-    (text_of_job c.args.job.now c.args.text.now _ _ _ c.requires c.in-Ran.ensures.answer c.in-Ran.ensures.text)
+    front c.in-Ok.ran.text_length c.write_text.new.text _ c.in-Ok.ensures.within
+    (text_of_job c.args.job.now c.args.text.now _ _ _ c.requires c.in-Ok.ensures.answer c.in-Ok.ensures.text)

@@ -14,6 +14,6 @@ pub returns-clause-written : goal.returns-clause-written
 returns-clause-written g c =
     let h = c.in_ok-n.ensures in
     let Holds : List ℕ → Type 0 = λ text. Appends (g.W.Write.contents c.args.out.now) (g.W.Write.contents c.print_job.new.out) text in
-    let long = c.input_buffer-job.ensures ∙ sym c.read_full.auto.buffer in
+    let long = sym c.filled-job.ensures ∙ sym c.read_full.auto.buffer in
     then c.print_job.result c.print_job.ensures.written (λ written.
     of_input _ _ c.read_full.new.buffer _ c.in_ok-n.n (λ bytes. Holds (printed bytes)) long h.within h.bytes h.all (λ bytes p. subst Holds (printed_of_read bytes) p) written)

@@ -1,32 +1,36 @@
--- By the outcomes of JobMade: 15, a refused call, or assembly.
+-- By the outcomes of JobMade: an error of the steps, or assembly.
 -- Assumes nothing.
-use mathlib.Core.Path.{sym, ap, ◌∙◌}
-use Rattle.job_steps.specs.JobBuild.{job_built_reply}
-use Rattle.jobs.proofs.JobMade.{made_refused, made_assembled}
+use mathlib.Core.Path.{◌≡◌, ap, ◌∙◌}
+use Rattle.std.proofs.Common.{rules, Err}
+use Rattle.jobs.specs.JobOutcome.{job_reply, lent_slices}
+use Rattle.job_steps.specs.JobBuild.{error_reply}
+use Rattle.jobs.proofs.JobMade.{Says, made_of_error, made_assembled}
 use Rattle.jobs.proofs.make.Goals as goal
+use Rattle.jobs.proofs.make.Goals.{After-from_residual, After-reply_of}
 
-pub returns-in-BadJob : goal.returns-in-BadJob
-returns-in-BadJob c =
-    let built = c in
-    let e = built.build_job-built.ensures in
-    let all = made_refused _ _ _ _ _ _ _ _ _ _ (sym (ap job_built_reply c.in-BadJob.is) ∙ e.reply, (e.bytes, e.words)) in
-    record { result_value = all.0; res_after = all.1 }
+refused : (c : goal.After-from_residual)
+    → Says c.args.job.now c.args.bytes.now c.args.words.now c.args.table.now c.args.res.now
+    (error_reply c.in_err-store.field-0.0) (lent_slices c.build_job.new.bytes c.build_job.new.words c.args.table.now c.args.res.now)
+refused c = let e = c.in_err-store.ensures in made_of_error _ _ _ _ _ c.in_err-store.field-0.0 _ _ (e.reply, (e.bytes, e.words))
 
-pub returns-in-Refused : goal.returns-in-Refused
-returns-in-Refused c =
-    let told = c in
-    let built = told in
-    let e = built.build_job-built.ensures in
-    let all = made_refused _ _ _ _ _ _ _ _ _ _ (sym (ap job_built_reply told.in-Refused.is) ∙ e.reply, (e.bytes, e.words)) in
-    record { result_value = all.0; res_after = all.1 }
+pub returns-in_err-store-clause-result_value : goal.returns-in_err-store-clause-result_value
+returns-in_err-store-clause-result_value c =
+    let told : c.from_residual.result ≡ Err c.in_err-store.field-0.0 = search rules in
+    ap job_reply told ∙ (refused c).0
 
-pub returns-in-Stored : goal.returns-in-Stored
-returns-in-Stored c =
-    let called = c in
-    let told = called in
-    let built = told in
-    let e = built.build_job-built.ensures in
-    let done = called.assemble.ensures in
-    let all = made_assembled _ _ _ _ _ told.in-Stored.store _ _ _ _ _ (sym (ap job_built_reply told.in-Stored.is) ∙ e.reply, (e.bytes, e.words))
-    (c.reply_of.ensures ∙ done.reply) done.table done.res in
-    record { result_value = all.0; res_after = all.1 }
+pub returns-in_err-store-clause-res_after : goal.returns-in_err-store-clause-res_after
+returns-in_err-store-clause-res_after c = (refused c).1
+
+assembled : (c : goal.After-reply_of)
+    → Says c.args.job.now c.args.bytes.now c.args.words.now c.args.table.now c.args.res.now
+    (job_reply c.reply_of.result) (lent_slices c.build_job.new.bytes c.build_job.new.words c.assemble.new.table c.assemble.new.res)
+assembled c =
+    let e = c.in_ok-store.ensures in
+    let done = c.assemble.ensures in
+    made_assembled _ _ _ _ _ c.in_ok-store.store _ _ _ _ _ (e.reply, (e.bytes, e.words)) (c.reply_of.ensures ∙ done.reply) done.table done.res
+
+pub returns-clause-result_value : goal.returns-clause-result_value
+returns-clause-result_value c = (assembled c).0
+
+pub returns-clause-res_after : goal.returns-clause-res_after
+returns-clause-res_after c = (assembled c).1

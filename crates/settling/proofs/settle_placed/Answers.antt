@@ -6,83 +6,83 @@ use native.Mathlib.Omega.{arith}
 use mathlib.Core.Path.{◌≡◌, sym, ap, ap₂, ◌∙◌, subst}
 use mathlib.Core.List.{List}
 use lib.ListN.{length, replicate}
-use Rattle.records.specs.Store.{store_of, words_per_section}
+use Rattle.std.specs.Prelude.{Err}
+use Rattle.std.proofs.lemmas.Result.{err_from_is_err_and}
 use Rattle.records.specs.Sections.{Section}
 use Rattle.layout.specs.Passes.{Settling, settle}
-use Rattle.settling.specs.SectionWalk.{sections_of, Fitting, passes_reply, passes_table}
+use Rattle.settling.specs.SectionWalk.{sections_in, MarksFit, passes_reply, passes_table}
 use Rattle.settling.specs.Settle.{settled_reply}
-use Rattle.settling.proofs.Sections.{decode_count}
+use Rattle.settling.proofs.Sections.{sections_count}
 use Rattle.settling.proofs.SettleAnswers.{settle_is, placed_refused, placed_backward, placed_done}
 use Rattle.settling.proofs.settle_placed.Goals as goal
-use Rattle.settling.proofs.settle_placed.Goals.{After-first_backward-backward, After-less_one, After-run_passes-reply, In-LaidOut, Start}
+use Rattle.settling.proofs.settle_placed.Goals.{After-first_backward-backward, After-less_one, After-run_passes, In_ok-laid, Start}
 
 abbrev entry : goal.After-less_one → goal.Start
 entry c = (goal.at.After-less_one c).Start
 
 abbrev sections : goal.After-less_one → List Section
-sections c = sections_of (entry c).args.store (entry c).args.bytes.now (entry c).args.words.now
+sections c = sections_in (entry c).args.store
 
 abbrev long : goal.After-less_one → ℕ
 long c = length (entry c).args.table.now
 
 -- so many sections
-count : (c : goal.After-less_one) → length (sections c) ≡ (entry c).args.store.sections
-count c = decode_count words_per_section (store_of (entry c).args.store (entry c).args.bytes.now (entry c).args.words.now)
+count : (c : goal.After-less_one) → length (sections c) ≡ (entry c).args.store.counts.sections
+count c = sections_count (entry c).args.store
 
 -- what the passes come to
 abbrev comes-to : goal.After-less_one → Settling
 comes-to c = settle (long c) (sections c)
 
-abbrev started : goal.After-run_passes-reply → goal.After-less_one
-started c = (goal.at.After-run_passes-reply c).After-less_one
+abbrev started : goal.After-run_passes → goal.After-less_one
+started c = (goal.at.After-run_passes c).After-less_one
 
 -- their reply and the table that they left
-passed : (c : goal.After-run_passes-reply) → (c.run_passes-reply.result ≡ passes_reply (comes-to (started c))) × (c.run_passes-reply.new.table ≡ passes_table (long (started c)) (comes-to (started c)))
+passed : (c : goal.After-run_passes) → (c.run_passes.result ≡ passes_reply (comes-to (started c))) × (c.run_passes.new.table ≡ passes_table (long (started c)) (comes-to (started c)))
 passed c =
     let s = started c in
     let is = settle_is (long s) (sections s) _ (s.less_one.ensures ∙ (entry s).requires.table_value) in
-    (c.run_passes-reply.ensures.reply ∙ ap passes_reply is, c.run_passes-reply.ensures.table ∙ ap₂ passes_table s.less_one.auto.table is)
+    (c.run_passes.ensures.reply ∙ ap passes_reply is, c.run_passes.ensures.table ∙ ap₂ passes_table s.less_one.auto.table is)
 
-kept : (c : goal.After-run_passes-reply) → length c.run_passes-reply.new.table ≡ long (started c)
-kept c = c.run_passes-reply.auto.table ∙ (started c).less_one.auto.table
+kept : (c : goal.After-run_passes) → length c.run_passes.new.table ≡ long (started c)
+kept c = c.run_passes.auto.table ∙ (started c).less_one.auto.table
 
 -- laid out, seen from the search for 12
-abbrev laid : goal.After-first_backward-backward → goal.In-LaidOut
-laid c = (goal.at.After-first_backward-backward c).In-LaidOut
+abbrev laid : goal.After-first_backward-backward → goal.In_ok-laid
+laid c = (goal.at.After-first_backward-backward c).In_ok-laid
 
-abbrev run : goal.In-LaidOut → goal.After-run_passes-reply
-run c = (goal.at.In-LaidOut c).After-run_passes-reply
+abbrev run : goal.In_ok-laid → goal.After-run_passes
+run c = (goal.at.In_ok-laid c).After-run_passes
 
-pub run_passes-reply-requires : goal.run_passes-reply-requires
-run_passes-reply-requires c =
-    let s = (goal.at.run_passes-reply-requires c).After-less_one in
-    subst (Fitting _ _ _) (sym s.less_one.auto.table) (entry s).requires.fitting
+pub run_passes-requires : goal.run_passes-requires
+run_passes-requires c =
+    let s = (goal.at.run_passes-requires c).After-less_one in
+    subst (MarksFit _) (sym s.less_one.auto.table) (entry s).requires.in_table
 
-pub returns-in_default : goal.returns-in_default
-returns-in_default c =
-    let r = (goal.at.returns-in_default c).After-run_passes-reply in
-    let all = placed_refused _ _ _ _ (comes-to (started r)) _ (passed r).0 (passed r).1 c.in_default.is in
-    record { reply = all.0; table = all.1 }
+pub returns-in_err-laid : goal.returns-in_err-laid
+returns-in_err-laid c =
+    let r = (goal.at.returns-in_err-laid c).After-run_passes in
+    let all = placed_refused _ _ _ _ (comes-to (started r)) _ (passed r).0 (passed r).1 c.in_err-laid.was in
+    let p = err_from_is_err_and c.from_residual.result c.from_residual.ensures.1 in
+    record { reply = ap settled_reply (p.1 ∙ ap Err p.2 ∙ sym c.in_err-laid.was) ∙ all.0; table = all.1 }
 
 pub first_backward-backward-requires : goal.first_backward-backward-requires
 first_backward-backward-requires c =
-    let r = run (goal.at.first_backward-backward-requires c).In-LaidOut in
+    let r = run (goal.at.first_backward-backward-requires c).In_ok-laid in
     record {
-      fitting = subst (Fitting _ _ _) (sym (kept r)) (entry (started r)).requires.fitting;
+      in_table = subst (MarksFit _) (sym (kept r)) (entry (started r)).requires.in_table;
       never = (entry (started r)).requires.never;
     }
 
 pub returns-then-backward-store : goal.returns-then-backward-store
 returns-then-backward-store c =
-    let refusing = c in
-    let at-if1 = refusing in
-    let search-for = (goal.at.returns-then-backward-store at-if1).After-first_backward-backward in
+    let search-for = (goal.at.returns-then-backward-store c).After-first_backward-backward in
     let r = run (laid search-for) in
-    let less : search-for.first_backward-backward.result < length (sections (started r)) = omega (arith, count (started r), at-if1.if-backward-store.true) in
-    let answers = placed_backward _ _ _ _ (comes-to (started r)) _ _ _ _ (passed r).0 (passed r).1 (laid search-for).in-LaidOut.is search-for.first_backward-backward.ensures less
-    (refusing.refuse.ensures.table ∙ ap (λ (n : ℕ). replicate n 0) (kept r)) in
+    let less : search-for.first_backward-backward.result < length (sections (started r)) = omega (arith, count (started r), c.if-backward-store.true) in
+    let answers = placed_backward _ _ _ _ (comes-to (started r)) _ _ _ (passed r).0 (passed r).1 (laid search-for).in_ok-laid.was search-for.first_backward-backward.ensures less
+    (c.refuse.ensures.table ∙ ap (λ (n : ℕ). replicate n 0) (kept r)) in
     record {
-      reply = ap settled_reply refusing.refuse.ensures.reply ∙ answers.0;
+      reply = ap settled_reply c.refuse.ensures.reply ∙ answers.0;
       table = answers.1;
     }
 
@@ -91,5 +91,5 @@ returns c =
     let search-for = (goal.at.returns c).After-first_backward-backward in
     let r = run (laid search-for) in
     let more : length (sections (started r)) ≤ search-for.first_backward-backward.result = omega (arith, count (started r), c.if-backward-store.false) in
-    let all = placed_done _ _ _ _ (comes-to (started r)) _ _ _ (passed r).0 (passed r).1 (laid search-for).in-LaidOut.is search-for.first_backward-backward.ensures more in
+    let all = placed_done _ _ _ _ (comes-to (started r)) _ _ (passed r).0 (passed r).1 (laid search-for).in_ok-laid.was search-for.first_backward-backward.ensures more in
     record { reply = all.0; table = all.1 }

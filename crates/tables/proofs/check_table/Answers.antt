@@ -1,7 +1,9 @@
 -- 6; then the tests of an undamaged store, with a map as large as the table asks for.
 -- Assumes nothing.
+use native.Mathlib.Omega.{arith}
 use mathlib.Core.Path.{◌≡◌, sym, ◌∙◌, subst}
 use mathlib.Core.List.{List}
+use mathlib.Core.Logic.{inl}
 use Prim.Native.Nat.{ℕ}
 use Rattle.units.specs.Reply.{Reply}
 use Rattle.records.specs.Store.{Store, store_of, words_per_section}
@@ -29,42 +31,27 @@ kept : (st : Store) (table : List ℕ) {reply : Reply Laid} → reply ≡ table_
     → (reply ≡ table_test words_per_section st table) × AcceptsEnough words_per_section st table reply
 kept st table e = (e, subst (AcceptsEnough words_per_section st table) (sym e) (accepts_enough words_per_section st table))
 
-pub check_small-requires : goal.check_small-requires
-check_small-requires c =
-    let told = c in
-    record {
-      whole = tested (goal.at.check_small-requires told).After-check_store ∙ told.in-Sound.is;
-      table_len_bound = c.if-table-le-SMALL.true;
-    }
+pub check_in-requires : goal.check_in-requires
+check_in-requires c = record {
+  whole = tested (goal.at.check_in-requires c).After-check_store ∙ c.in-Sound.is;
+  covers = inl c.if-table-le-SMALL.true;
+  fits = omega arith;
+}
 
 pub returns-then-table-le-SMALL : goal.returns-then-table-le-SMALL
 returns-then-table-le-SMALL c =
-    let told = c in
-    let test = (goal.at.returns-then-table-le-SMALL told).After-check_store in
-    let s = entry test in
-    let all = kept (store-of s) s.args.table.now
-    (c.check_small.ensures ∙ sym (sound_test words_per_section (store-of s) s.args.table.now (tested test ∙ told.in-Sound.is))) in
+    let test = (goal.at.returns-then-table-le-SMALL c).After-check_store in
+    let all = kept _ _ (c.check_in.ensures ∙ sym (sound_test words_per_section (store-of (entry test)) c.args.table.now (tested test ∙ c.in-Sound.is))) in
     record { reply = all.0; enough = all.1 }
-
-pub check_large-requires : goal.check_large-requires
-check_large-requires c =
-    let told = c in
-    tested (goal.at.check_large-requires told).After-check_store ∙ told.in-Sound.is
 
 pub returns-in-Damaged : goal.returns-in-Damaged
 returns-in-Damaged c =
-    let told = c in
-    let test = (goal.at.returns-in-Damaged told).After-check_store in
-    let s = entry test in
-    let all = kept (store-of s) s.args.table.now
-    (sym (damaged_test words_per_section (store-of s) s.args.table.now _ (tested test ∙ told.in-Damaged.is))) in
+    let test = (goal.at.returns-in-Damaged c).After-check_store in
+    let all = kept _ _ (sym (damaged_test words_per_section (store-of (entry test)) c.args.table.now _ (tested test ∙ c.in-Damaged.is))) in
     record { reply = all.0; enough = all.1 }
 
 pub returns-else-table-le-SMALL : goal.returns-else-table-le-SMALL
 returns-else-table-le-SMALL c =
-    let told = c in
-    let test = (goal.at.returns-else-table-le-SMALL told).After-check_store in
-    let s = entry test in
-    let all = kept (store-of s) s.args.table.now
-    (c.check_large.ensures ∙ sym (sound_test words_per_section (store-of s) s.args.table.now (tested test ∙ told.in-Sound.is))) in
+    let test = (goal.at.returns-else-table-le-SMALL c).After-check_store in
+    let all = kept _ _ (c.check_in-in-Sound.ensures ∙ sym (sound_test words_per_section (store-of (entry test)) c.args.table.now (tested test ∙ c.in-Sound.is))) in
     record { reply = all.0; enough = all.1 }

@@ -1,28 +1,10 @@
--- The outer invariant: the passes that are left, from the table as it is, come to the whole settling. The inner one: what remains of the walk comes
--- to the whole pass from the table that the pass started with, and its sum is in bounds. The measures are what is left. Assumes nothing.
-use Prim.Native.Nat.{◌-◌, ◌≤◌}
+-- The invariant: the passes that are left, from the table as it is, come to the whole settling. Assumes nothing.
 use mathlib.Core.Path.{◌≡◌}
-use lib.ListN.{length, drop}
 use Rattle.units.specs.Replies.{max_passes}
-use Rattle.units.specs.declared.reply.Refusal.{Refusal}
-use Rattle.layout.specs.Passes.{walk_from, pass, passes}
-use Rattle.settling.specs.SectionWalk.{sections_of}
-use Rattle.settling.proofs.Sections.{Room}
+use Rattle.layout.specs.Passes.{passes}
+use Rattle.settling.specs.SectionWalk.{sections_in}
 use Rattle.settling.proofs.Turns.{Left}
 use Rattle.settling.proofs.passes.run_passes.Given as goal
 
-abbrev pub invariant-loop-i : goal.invariant-loop-i
-invariant-loop-i l =
-    (l.i ≤ l.store.sections) × Room (sections_of l.store l.bytes l.words) l.i l.sum × (length l.table ≡ length l.initial.table) × (l.refusal ≡ l.initial.refusal)
-    × (walk_from (drop l.i (sections_of l.store l.bytes l.words)) l.i l.sum l.moved l.table ≡ pass (sections_of l.store l.bytes l.words) l.initial.table)
-
-abbrev pub decreases-loop-i : goal.decreases-loop-i
-decreases-loop-i l = l.store.sections - l.i
-
-abbrev pub invariant-passes : goal.invariant-passes
-invariant-passes l =
-    (l.k ≤ 1025) × (l.refusal ≡ Refusal.Unsettled) × (length l.table ≡ length l.initial.table)
-    × (Left (sections_of l.store l.bytes l.words) l.k l.table ≡ passes max_passes 1 (sections_of l.store l.bytes l.words) l.initial.table)
-
-abbrev pub decreases-passes : goal.decreases-passes
-decreases-passes l = 1025 - l.k
+abbrev pub invariant-loop-passes : goal.invariant-loop-passes
+invariant-loop-passes l = Left (sections_in l.store) l.passes l.table ≡ passes max_passes 1 (sections_in l.store) l.initial.table

@@ -1,76 +1,37 @@
--- Without a delta none is backward. Else the invariant: no delta before i is. The measure is what is left.
--- Assumes nothing.
+-- Without a delta none is backward; else the search. Assumes nothing.
+use Prim.Native.Nat.{ℕ, ◌<◌}
 use native.Mathlib.Omega.{arith}
-use mathlib.Core.Path.{◌≡◌, sym, ◌∙◌}
+use mathlib.Core.Path.{◌≡◌, refl, sym, ◌∙◌}
+use mathlib.Core.Bool.{true, false}
 use mathlib.Core.List.{List}
-use Rattle.records.specs.Store.{store_of, words_per_section}
+use lib.ListN.{length}
+use Rattle.std.proofs.Common.{rules}
+use Rattle.records.specs.Store.{words_per_section, words_at}
 use Rattle.records.specs.Sections.{Section}
-use Rattle.slices.proofs.First.{search_start, search_next, search_hit, search_done}
 use Rattle.layout.specs.Conditions.{backward_at, first_backward}
-use Rattle.settling.specs.SectionWalk.{sections_of}
-use Rattle.settling.proofs.Sections.{decode_count, words_fit_lem, Turn, turn, turn_in, backward_test, none_backward}
+use Rattle.settling.specs.SectionWalk.{sections_in, MarksIn, backward_words}
+use Rattle.settling.proofs.Sections.{sections_count, turn_at, marks_fit, first_found, backward_test, none_backward}
 use Rattle.settling.proofs.search.first_backward.Goals as goal
-use Rattle.settling.proofs.search.first_backward.Goals.{After-is_backward, After-section_words, At-loop-i, Start}
-
--- the entry and the sections, seen from the loop
-abbrev entry : goal.At-loop-i → goal.Start
-entry c = (goal.at.At-loop-i c).Start
-
-abbrev sections : goal.At-loop-i → List Section
-sections c = sections_of (entry c).args.store (entry c).args.bytes.now (entry c).args.words.now
-
--- the turn, where the section's words were read
-abbrev at-loop : goal.After-section_words → goal.At-loop-i
-at-loop c = (goal.at.After-section_words c).At-loop-i
-
-here : (c : goal.After-section_words) → Turn (sections (at-loop c)) (at-loop c).loop-i.i c.section_words.result
-here c = turn _ _ _ (entry (at-loop c)).requires.fitting.whole _ _ c.loop-i-test.true c.section_words.ensures
-
--- the code's test is 12's
-tested : (c : goal.After-is_backward) → c.is_backward.result ≡ backward_at (entry (at-loop (goal.at.After-is_backward c).After-section_words)).args.table.now (sections (at-loop (goal.at.After-is_backward c).After-section_words)) (at-loop (goal.at.After-is_backward c).After-section_words).loop-i.i
-tested c = c.is_backward.ensures ∙ backward_test _ _ _ _ (here (goal.at.After-is_backward c).After-section_words)
 
 pub returns-then-not-has_delta : goal.returns-then-not-has_delta
-returns-then-not-has_delta c =
-    let start = c in
-    let a = start.args in
-    sym (decode_count words_per_section (store_of a.store a.bytes.now a.words.now)) ∙ none_backward _ _ (start.requires.never c.if-not-has_delta.true)
+returns-then-not-has_delta c = sym (sections_count c.args.store) ∙ none_backward _ _ (c.requires.never c.if-not-has_delta.true)
 
-pub loop-i-init : goal.loop-i-init
-loop-i-init c = (omega arith, search_start _)
-
-pub overflow_cast-i : goal.overflow_cast-i
-overflow_cast-i c = omega arith
-
-pub section_words-requires : goal.section_words-requires
-section_words-requires c =
-    let turning = (goal.at.section_words-requires c).At-loop-i in
-    words_fit_lem _ _ _ (entry turning).requires.fitting.whole turning.loop-i.i c.loop-i-test.true
-
-pub is_backward-requires : goal.is_backward-requires
-is_backward-requires c = turn_in _ _ _ _ (entry (at-loop c)).requires.fitting _ _ (here c)
-
-pub returns-then-is_backward : goal.returns-then-is_backward
-unfolding first_backward
-returns-then-is_backward c =
-    let read = (goal.at.returns-then-is_backward c).After-section_words in
-    search_hit _ _ _ (at-loop read).loop-i.invariant.1 (here read).below (sym (tested (goal.at.returns-then-is_backward c).After-is_backward) ∙ c.if-is_backward.true)
-
-pub overflow_add-i : goal.overflow_add-i
-overflow_add-i c = omega arith
-
-pub loop-i-smaller : goal.loop-i-smaller
-loop-i-smaller c = omega arith
-
-pub loop-i-preserved : goal.loop-i-preserved
-loop-i-preserved c =
-    let read = (goal.at.loop-i-preserved c).After-section_words in
-    (omega arith, search_next _ _ (at-loop read).loop-i.invariant.1 (sym (tested (goal.at.loop-i-preserved c).After-is_backward) ∙ c.if-is_backward.false))
+pub first_section-requires : goal.first_section-requires
+first_section-requires c =
+    λ i l.
+    let m : MarksIn (length c.args.table.now) (words_at words_per_section c.args.store.words.now i) =
+    marks_fit _ _ _ _ c.requires.in_table (turn_at c.args.store i _ l (λ k. refl)) in
+    search rules
 
 pub returns : goal.returns
 unfolding first_backward
 returns c =
-    let turning = (goal.at.returns c).At-loop-i in
-    let a = (entry turning).args in
-    let count = decode_count words_per_section (store_of a.store a.bytes.now a.words.now) in
-    search_done _ _ _ turning.loop-i.invariant.1 (omega (arith, count)) (omega (arith, count))
+    let s = c.args.store in
+    let table = c.args.table.now in
+    let at : ℕ = c.first_section.result in
+    let ss : List Section = sections_in s in
+    let none : (i : ℕ) → i < at → backward_words table (words_at words_per_section s.words.now i) ≡ false = λ i l. let p = c.first_section.ensures.none i l in search rules in
+    let one : at < s.counts.sections → backward_words table (words_at words_per_section s.words.now at) ≡ true = λ l. let p = c.first_section.ensures.one l in search rules in
+    let same : (i : ℕ) → i < s.counts.sections → backward_words table (words_at words_per_section s.words.now i) ≡ backward_at table ss i =
+    λ i l. backward_test _ _ _ _ (turn_at s i _ l (λ k. refl)) in
+    first_found s (backward_at table ss) at c.first_section.ensures.within (λ i l. sym (same i (omega (arith, c.first_section.ensures.within))) ∙ none i l) (λ l. sym (same at l) ∙ one l)

@@ -1,80 +1,39 @@
--- Where all marks are placed, no reference is to an unplaced one. Else the invariant: no section before i is one. The measure is what is left.
--- Assumes nothing.
+-- Where all marks are placed, no reference is to an unplaced one; else the search. Assumes nothing.
 use native.Mathlib.Omega.{arith}
 use mathlib.Core.Path.{◌≡◌, refl, sym, ◌∙◌}
+use Prim.Native.Nat.{ℕ, ◌<◌}
+use mathlib.Core.Bool.{true, false}
 use mathlib.Core.List.{List}
-use Rattle.records.specs.Store.{store_of, words_per_section}
+use lib.ListN.{length}
+use Rattle.std.proofs.Common.{rules}
+use Rattle.records.specs.Store.{words_per_section, words_at}
 use Rattle.records.specs.Sections.{Section}
-use Rattle.slices.proofs.First.{search_start, search_next, search_hit, search_done}
 use Rattle.layout.specs.Conditions.{unplaced_at, first_unplaced}
-use Rattle.settling.specs.SectionWalk.{sections_of}
-use Rattle.settling.proofs.Sections.{decode_count, words_fit_lem, Turn, turn, turn_in}
+use Rattle.settling.specs.SectionWalk.{sections_in, MarksIn, unplaced_words}
+use Rattle.settling.proofs.Sections.{sections_count, turn_at, marks_fit, first_found}
 use Rattle.settling.proofs.FirstPlacings.{unplaced_test, all_placed_lem}
 use Rattle.settling.proofs.search.first_unplaced.Goals as goal
-use Rattle.settling.proofs.search.first_unplaced.Goals.{After-is_unplaced, After-section_words, At-loop-i, Start}
-
--- the entry and the sections, seen from the loop
-abbrev entry : goal.At-loop-i → goal.Start
-entry c = (goal.at.At-loop-i c).Start
-
-abbrev sections : goal.At-loop-i → List Section
-sections c = sections_of (entry c).args.store (entry c).args.bytes.now (entry c).args.words.now
-
--- the turn, where the section's words were read
-abbrev at-loop : goal.After-section_words → goal.At-loop-i
-at-loop c = (goal.at.After-section_words c).At-loop-i
-
-here : (c : goal.After-section_words) → Turn (sections (at-loop c)) (at-loop c).loop-i.i c.section_words.result
-here c = turn _ _ _ (entry (at-loop c)).requires.fitting.whole _ _ c.loop-i-test.true c.section_words.ensures
-
--- the code's test is that of 8, 17 and 18
-tested : (c : goal.After-is_unplaced) → c.is_unplaced.result ≡ unplaced_at (sections (at-loop (goal.at.After-is_unplaced c).After-section_words)) (at-loop (goal.at.After-is_unplaced c).After-section_words).loop-i.i
-tested c =
-    let s = entry (at-loop (goal.at.After-is_unplaced c).After-section_words) in
-    c.is_unplaced.ensures ∙ unplaced_test _ _ _ s.requires.table_value s.requires.fitting.in_table _ _ (here (goal.at.After-is_unplaced c).After-section_words)
 
 pub returns-then-all_placed : goal.returns-then-all_placed
 returns-then-all_placed c =
-    let start = c in
-    let a = start.args in
-    sym (decode_count words_per_section (store_of a.store a.bytes.now a.words.now))
-    ∙ all_placed_lem _ _ _ start.requires.table_value start.requires.fitting.in_table refl (sym c.all_placed.ensures ∙ c.if-all_placed.true)
+    sym (sections_count c.args.store)
+    ∙ all_placed_lem _ _ _ c.requires.table_value c.requires.in_table refl (sym c.all_placed.ensures ∙ c.if-all_placed.true)
 
-pub loop-i-init : goal.loop-i-init
-loop-i-init c = (omega arith, search_start _)
-
-pub overflow_cast-i : goal.overflow_cast-i
-overflow_cast-i c = omega arith
-
-pub section_words-requires : goal.section_words-requires
-section_words-requires c =
-    let turning = (goal.at.section_words-requires c).At-loop-i in
-    words_fit_lem _ _ _ (entry turning).requires.fitting.whole turning.loop-i.i c.loop-i-test.true
-
-pub is_unplaced-requires : goal.is_unplaced-requires
-is_unplaced-requires c = turn_in _ _ _ _ (entry (at-loop c)).requires.fitting _ _ (here c)
-
-pub returns-then-is_unplaced : goal.returns-then-is_unplaced
-unfolding first_unplaced
-returns-then-is_unplaced c =
-    let read = (goal.at.returns-then-is_unplaced c).After-section_words in
-    search_hit _ _ _ (at-loop read).loop-i.invariant.1 (here read).below (sym (tested (goal.at.returns-then-is_unplaced c).After-is_unplaced) ∙ c.if-is_unplaced.true)
-
-pub overflow_add-i : goal.overflow_add-i
-overflow_add-i c = omega arith
-
-pub loop-i-smaller : goal.loop-i-smaller
-loop-i-smaller c = omega arith
-
-pub loop-i-preserved : goal.loop-i-preserved
-loop-i-preserved c =
-    let read = (goal.at.loop-i-preserved c).After-section_words in
-    (omega arith, search_next _ _ (at-loop read).loop-i.invariant.1 (sym (tested (goal.at.loop-i-preserved c).After-is_unplaced) ∙ c.if-is_unplaced.false))
+pub first_section-requires : goal.first_section-requires
+first_section-requires c = λ i l.
+    let m : MarksIn (length c.args.table.now) (words_at words_per_section c.args.store.words.now i) =
+    marks_fit _ _ _ _ c.requires.in_table (turn_at c.args.store i _ l (λ k. refl)) in
+    search rules
 
 pub returns : goal.returns
 unfolding first_unplaced
 returns c =
-    let turning = (goal.at.returns c).At-loop-i in
-    let a = (entry turning).args in
-    let count = decode_count words_per_section (store_of a.store a.bytes.now a.words.now) in
-    search_done _ _ _ turning.loop-i.invariant.1 (omega (arith, count)) (omega (arith, count))
+    let s = c.args.store in
+    let table = c.args.table.now in
+    let at : ℕ = c.first_section.result in
+    let ss : List Section = sections_in s in
+    let none : (i : ℕ) → i < at → unplaced_words table (words_at words_per_section s.words.now i) ≡ false = λ i l. let p = c.first_section.ensures.none i l in search rules in
+    let one : at < s.counts.sections → unplaced_words table (words_at words_per_section s.words.now at) ≡ true = λ l. let p = c.first_section.ensures.one l in search rules in
+    let same : (i : ℕ) → i < s.counts.sections → unplaced_words table (words_at words_per_section s.words.now i) ≡ unplaced_at ss i =
+    λ i l. unplaced_test _ _ _ c.requires.table_value c.requires.in_table i _ (turn_at s i _ l (λ k. refl)) in
+    first_found s (unplaced_at ss) at c.first_section.ensures.within (λ i l. sym (same i (omega (arith, c.first_section.ensures.within))) ∙ none i l) (λ l. sym (same at l) ∙ one l)

@@ -1,6 +1,6 @@
 -- The invariant: what remains, from the table and the sum as they are, comes to the whole table of first placings; so does the start table, from
 -- the table less 1, as long as no placing apart was found; the first such so far; no section before i is short, and, if none was met, none is a
--- delta. The measure is what is left. Assumes nothing.
+-- delta. Assumes nothing.
 use Prim.Native.Nat.{ℕ, ◌+◌, ◌≤◌, ◌<◌}
 use native.Mathlib.Omega.{arith}
 use mathlib.Core.Path.{◌≡◌, refl, sym, ap, ap₂, ◌∙◌}
@@ -10,7 +10,6 @@ use lib.Dec.{ltb}
 use lib.ListN.{length, drop}
 use Rattle.units.specs.Reference.{least_size}
 use Rattle.records.specs.Record.{mark_kind, direct_kind}
-use Rattle.records.specs.Store.{store_of, words_per_section}
 use Rattle.records.specs.Sections.{Section}
 use Rattle.slices.specs.First.{least_from}
 use Rattle.slices.proofs.First.{NoneBefore, search_start, search_next, search_hit, search_done}
@@ -18,64 +17,61 @@ use Rattle.slices.proofs.Tests.{or-false}
 use Rattle.layout.specs.Passes.{start_from}
 use Rattle.layout.specs.Conditions.{section_at, short_at, first_short, apart_at, first_apart, delta_at, sum_of}
 use Rattle.layout.proofs.Moves.{width_by}
-use Rattle.settling.specs.SectionWalk.{sections_of, least_words, place_mark, place_from, less_one}
+use Rattle.settling.specs.SectionWalk.{sections_in, least_words, place_mark, place_from, less_one}
 use Rattle.settling.proofs.SectionWords.{as_mark, not_mark, ordered, least_words_lem, marks_in}
-use Rattle.settling.proofs.Sections.{decode_count, words_fit_lem, Turn, turn, short_test, delta_test, room_mark, room_least, room_small, least_next}
+use Rattle.settling.proofs.Sections.{sections_count, Turn, turn_at, short_test, delta_test, room_mark, room_least, sums_small, least_next}
 use Rattle.settling.proofs.Turns.{walk_next, place_start, place_at, place_past, place_done, start_start, start_past, start_done}
 use Rattle.settling.proofs.FirstPlacings.{apart_none}
 use Rattle.settling.proofs.StartTable.{so_start, so_next, so_done, so_none, placed_apart_lem, less_zeros, start_placed, length_place}
 use Rattle.settling.proofs.table.place.Goals as goal
 use Rattle.settling.proofs.table.place.Goals.{then-section-eq-MARK, else-section-eq-MARK}
-use Rattle.settling.proofs.table.place.Goals.{After-is_short, After-section_words-section, After-struct_known-in-loop-i-2-1, At-loop-i, Else-is_short, Else-section-eq-MARK, Start}
+use Rattle.settling.proofs.table.place.Goals.{After-is_short, After-section-section, At-loop-i, Else-is_short, Else-section-eq-MARK, Start}
 
 -- the entry and the sections, seen from the loop
 abbrev entry : goal.At-loop-i → goal.Start
 entry c = (goal.at.At-loop-i c).Start
 
 abbrev sections : goal.At-loop-i → List Section
-sections c = sections_of (entry c).args.store (entry c).args.bytes.now (entry c).args.words.now
+sections c = sections_in (entry c).args.store
 
 abbrev long : goal.At-loop-i → ℕ
 long c = length (entry c).args.table.now
 
-abbrev at-loop : goal.After-section_words-section → goal.At-loop-i
-at-loop c = (goal.at.After-section_words-section c).At-loop-i
+abbrev at-loop : goal.After-section-section → goal.At-loop-i
+at-loop c = (goal.at.After-section-section c).At-loop-i
 
-here : (c : goal.After-section_words-section) → Turn (sections (at-loop c)) (at-loop c).loop-i.i c.section_words-section.result
-here c = turn _ _ _ (entry (at-loop c)).requires.whole _ _ c.loop-i-test.true c.section_words-section.ensures
+here : (c : goal.After-section-section) → Turn (sections (at-loop c)) (at-loop c).loop-i.i c.section-section.result
+here c = turn_at (entry (at-loop c)).args.store _ _ c.loop-i-test.true c.section-section.ensures
 
 -- the code's test is 7's
-tested : (c : goal.After-is_short) → c.is_short.result ≡ short_at (long (at-loop (goal.at.After-is_short c).After-section_words-section)) (sections (at-loop (goal.at.After-is_short c).After-section_words-section)) (at-loop (goal.at.After-is_short c).After-section_words-section).loop-i.i
-tested c = c.is_short.ensures ∙ short_test _ _ _ _ (here (goal.at.After-is_short c).After-section_words-section)
+tested : (c : goal.After-is_short) → c.is_short.result ≡ short_at (long (at-loop (goal.at.After-is_short c).After-section-section)) (sections (at-loop (goal.at.After-is_short c).After-section-section)) (at-loop (goal.at.After-is_short c).After-section-section).loop-i.i
+tested c = c.is_short.ensures ∙ short_test _ _ _ _ (here (goal.at.After-is_short c).After-section-section)
 
 -- where it isn't short, the mark that is placed is in the table
-mark-in : (c : goal.Else-is_short) → c.section_words-section.result.kind ≡ mark_kind → c.section_words-section.result.first < long (at-loop (goal.at.Else-is_short c).After-section_words-section)
+mark-in : (c : goal.Else-is_short) → c.section-section.result.kind ≡ mark_kind → c.section-section.result.first < long (at-loop (goal.at.Else-is_short c).After-section-section)
 mark-in c e = (marks_in _ _ (sym c.is_short.ensures ∙ c.if-is_short.false)).placed e
 
 -- seen from where its kind is tested
-abbrev passed : goal.After-struct_known-in-loop-i-2-1 → goal.Else-is_short
-passed c = (goal.at.After-struct_known-in-loop-i-2-1 c).Else-is_short
-
-abbrev reading : goal.After-struct_known-in-loop-i-2-1 → goal.After-section_words-section
-reading c = (goal.at.Else-is_short (passed c)).After-section_words-section
+abbrev reading : goal.Else-is_short → goal.After-section-section
+reading c = (goal.at.Else-is_short c).After-section-section
 
 -- the sum is in bounds, and with the section's least size too
-sum-small : (c : goal.After-section_words-section) → (at-loop c).loop-i.sum ≤ 22020096
+sum-small : (c : goal.After-section-section) → (at-loop c).loop-i.sum ≤ 22020096
 sum-small c =
     let turning = at-loop c in
-    room_small _ _ _ (entry turning).requires.whole turning.loop-i.i turning.loop-i.sum turning.loop-i.invariant.0.1 turning.loop-i.invariant.0.0
+    sums_small (entry turning).args.store turning.loop-i.i turning.loop-i.sum turning.loop-i.invariant.0.1 turning.loop-i.invariant.0.0
 
 -- another section: its least size, as the code has it
-least-here : (c : goal.Else-section-eq-MARK) (n : ℕ) → n ≡ least_words (reading (goal.at.Else-section-eq-MARK c).After-struct_known-in-loop-i-2-1).section_words-section.result
-    → n ≡ width_by least_size (section_at (sections (at-loop (reading (goal.at.Else-section-eq-MARK c).After-struct_known-in-loop-i-2-1))) (at-loop (reading (goal.at.Else-section-eq-MARK c).After-struct_known-in-loop-i-2-1)).loop-i.i)
-least-here c n e = e ∙ least_words_lem (here (reading (goal.at.Else-section-eq-MARK c).After-struct_known-in-loop-i-2-1)).words c.if-section-eq-MARK.false
+least-here : (c : goal.Else-section-eq-MARK) (n : ℕ) → n ≡ least_words (reading (goal.at.Else-section-eq-MARK c).Else-is_short).section-section.result
+    → n ≡ width_by least_size (section_at (sections (at-loop (reading (goal.at.Else-section-eq-MARK c).Else-is_short))) (at-loop (reading (goal.at.Else-section-eq-MARK c).Else-is_short)).loop-i.i)
+least-here c n e = e ∙ least_words_lem (here (reading (goal.at.Else-section-eq-MARK c).Else-is_short)).words c.if-section-eq-MARK.false
 
 pub loop-i-init : goal.loop-i-init
 unfolding sum_of
 loop-i-init c =
     let start = c in
     let a = start.args in
-    let ss = sections_of a.store a.bytes.now a.words.now in
+    let ss = sections_in a.store in
     let n = length a.table.now in (
       (omega arith, omega arith, refl, place_start n ss a.table.now start.requires.table_value),
       refl,
@@ -85,21 +81,13 @@ loop-i-init c =
       λ _. search_start _,
     )
 
-pub overflow_cast-i : goal.overflow_cast-i
-overflow_cast-i c = omega arith
-
-pub section_words-section-requires : goal.section_words-section-requires
-section_words-section-requires c =
-    let turning = (goal.at.section_words-section-requires c).At-loop-i in
-    words_fit_lem _ _ _ (entry turning).requires.whole turning.loop-i.i c.loop-i-test.true
-
 pub shape_of-table-then-is_short : goal.shape_of-table-then-is_short
-shape_of-table-then-is_short c = (at-loop (goal.at.shape_of-table-then-is_short c).After-section_words-section).loop-i.invariant.0.2
+shape_of-table-then-is_short c = (at-loop (goal.at.shape_of-table-then-is_short c).After-section-section).loop-i.invariant.0.2
 
 pub returns-then-is_short : goal.returns-then-is_short
 unfolding first_short
 returns-then-is_short c =
-    let read = (goal.at.returns-then-is_short c).After-section_words-section in
+    let read = (goal.at.returns-then-is_short c).After-section-section in
     let found = sym (tested (goal.at.returns-then-is_short c).After-is_short) ∙ c.if-is_short.true in
     record {
       short = search_hit _ _ _ (at-loop read).loop-i.invariant.4 (here read).below found;
@@ -109,41 +97,35 @@ returns-then-is_short c =
 pub place_mark-is_apart-requires : goal.place_mark-is_apart-requires
 place_mark-is_apart-requires c =
     let at-if3 = c in
-    let read = reading (goal.at.place_mark-is_apart-requires at-if3).After-struct_known-in-loop-i-2-1 in
-    (omega (arith, mark-in (passed (goal.at.place_mark-is_apart-requires at-if3).After-struct_known-in-loop-i-2-1) at-if3.if-section-eq-MARK.true, (at-loop read).loop-i.invariant.0.2), omega (arith, sum-small read))
+    let read = reading (goal.at.place_mark-is_apart-requires at-if3).Else-is_short in
+    (omega (arith, mark-in (goal.at.place_mark-is_apart-requires at-if3).Else-is_short at-if3.if-section-eq-MARK.true, (at-loop read).loop-i.invariant.0.2), omega (arith, sum-small read))
 
 pub least_size-sum-requires : goal.least_size-sum-requires
-least_size-sum-requires c = ordered (here (reading (goal.at.least_size-sum-requires c).After-struct_known-in-loop-i-2-1)).words c.if-section-eq-MARK.false
+least_size-sum-requires c = ordered (here (reading (goal.at.least_size-sum-requires c).Else-is_short)).words c.if-section-eq-MARK.false
 
 pub overflow_add-sum : goal.overflow_add-sum
 overflow_add-sum c =
     let at-if3 = (goal.at.overflow_add-sum c).Else-section-eq-MARK in
-    let read = reading (goal.at.Else-section-eq-MARK at-if3).After-struct_known-in-loop-i-2-1 in
+    let read = reading (goal.at.Else-section-eq-MARK at-if3).Else-is_short in
     let turning = at-loop read in
-    let l : turning.loop-i.i + 1 ≤ (entry turning).args.store.sections = omega (arith, read.loop-i-test.true) in
-    omega (arith, room_small _ _ _ (entry turning).requires.whole (turning.loop-i.i + 1) _ (room_least (sections turning) _ _ (here read).below turning.loop-i.invariant.0.1) l, least-here at-if3 _ c.least_size-sum.ensures)
-
-pub overflow_add-i : goal.overflow_add-i
-overflow_add-i c = omega arith
-
-pub loop-i-smaller : goal.loop-i-smaller
-loop-i-smaller c = omega arith
+    let l : turning.loop-i.i + 1 ≤ (entry turning).args.store.counts.sections = omega (arith, read.loop-i-test.true) in
+    omega (arith, sums_small (entry turning).args.store (turning.loop-i.i + 1) _ (room_least (sections turning) _ _ (here read).below turning.loop-i.invariant.0.1) l, least-here at-if3 _ c.least_size-sum.ensures)
 
 pub loop-i-preserved : goal.loop-i-preserved
 loop-i-preserved c =
-    let unshort = passed (goal.at.loop-i-preserved c).After-struct_known-in-loop-i-2-1 in
-    let read = (goal.at.loop-i-preserved c).After-section_words-section in
+    let unshort = (goal.at.loop-i-preserved c).Else-is_short in
+    let read = (goal.at.loop-i-preserved c).After-section-section in
     let turning = at-loop read in
     let ss = sections turning in
     let i = turning.loop-i.i in
     let sum = turning.loop-i.sum in
     let table = turning.loop-i.table in
     let inv = turning.loop-i.invariant in
-    let m = read.section_words-section.result.first in
+    let m = read.section-section.result.first in
     let t = here read in
     let below = c.loop-i-test.true in
     let whole = search_next _ i inv.4 (sym (tested (goal.at.loop-i-preserved c).After-is_short) ∙ unshort.if-is_short.false) in
-    let direct : (turning.loop-i.has_delta || ltb direct_kind read.section_words-section.result.kind) ≡ false → NoneBefore (delta_at ss) (i + 1) =
+    let direct : (turning.loop-i.has_delta || ltb direct_kind read.section-section.result.kind) ≡ false → NoneBefore (delta_at ss) (i + 1) =
     λ h. let parts = or-false turning.loop-i.has_delta _ h in search_next _ i (inv.5 parts.0) (sym (delta_test ss i _ t) ∙ parts.1) in
     elim c.if-section-eq-MARK.branch [
       | then-section-eq-MARK w ↦
@@ -190,10 +172,11 @@ returns c =
     let a = (entry turning).args in
     let ss = sections turning in
     let inv = turning.loop-i.invariant in
-    let count = decode_count words_per_section (store_of a.store a.bytes.now a.words.now) in
+    let count = sections_count a.store in
+    let end : a.store.counts.sections ≡ turning.loop-i.i = omega arith in
     let done : length ss ≤ turning.loop-i.i = omega (arith, count, c.loop-i-test.false) in
     record {
-      short = search_done _ _ _ inv.4 (omega (arith, count, inv.0.0)) done;
+      short = end ∙ search_done _ _ _ inv.4 (omega (arith, count, inv.0.0)) done;
       placed = λ _.
           record {
             apart = so_done _ (apart_at ss) _ _ inv.2 inv.0.0 c.loop-i-test.false ∙ ap (λ (k : ℕ). least_from (apart_at ss) k 0) (sym count);

@@ -1,13 +1,8 @@
--- The invariant: no section before i is short. The measure is what is left.
--- Assumes nothing.
-use Prim.Native.Nat.{◌-◌, ◌≤◌}
+-- The invariant: no section before i is short. Assumes nothing.
 use Rattle.slices.proofs.First.{NoneBefore}
 use Rattle.layout.specs.Conditions.{short_at}
 use Rattle.settling.specs.SectionWalk.{sections_of}
 use Rattle.tables.proofs.search.first_short.Given as goal
 
 abbrev pub invariant-loop-i : goal.invariant-loop-i
-invariant-loop-i l = (l.i ≤ l.store.sections) × NoneBefore (short_at l.limit (sections_of l.store l.bytes l.words)) l.i
-
-abbrev pub decreases-loop-i : goal.decreases-loop-i
-decreases-loop-i l = l.store.sections - l.i
+invariant-loop-i l = NoneBefore (short_at l.limit (sections_of l.fn.store l.fn.bytes l.words)) l.i

@@ -1,13 +1,9 @@
 -- Where every mark that the table has an entry for is in the map, no reference is to an unplaced one. Else the invariant: no section before
--- i is one. The measure is what is left. Assumes nothing.
-use Prim.Native.Nat.{◌-◌, ◌≤◌}
+-- i is one. Assumes nothing.
 use Rattle.slices.proofs.First.{NoneBefore}
 use Rattle.layout.specs.Conditions.{unplaced_at}
 use Rattle.settling.specs.SectionWalk.{sections_of}
 use Rattle.tables.proofs.search.first_unplaced.Given as goal
 
 abbrev pub invariant-loop-i : goal.invariant-loop-i
-invariant-loop-i l = (l.i ≤ l.store.sections) × NoneBefore (unplaced_at (sections_of l.store l.bytes l.words)) l.i
-
-abbrev pub decreases-loop-i : goal.decreases-loop-i
-decreases-loop-i l = l.store.sections - l.i
+invariant-loop-i g l = NoneBefore (unplaced_at (sections_of l.fn.store l.fn.bytes l.words)) l.i
