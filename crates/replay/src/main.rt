@@ -13,7 +13,7 @@ mod stop;
 
 use machine::Machine;
 use memory::{UNWRITTEN_BYTE, UNWRITTEN_WORD};
-use reads::read_full;
+use reads::{filled, read_full};
 use records::Assembler;
 use script::{MAX_BYTES, MAX_LISTING, MAX_RESULT, MAX_SCRIPT, MAX_TABLE, MAX_WORDS, Script};
 use std::io;
@@ -21,11 +21,6 @@ use std::io::{Print, Stdout};
 
 // Room for one byte more than the longest script, so that a longer one is seen.
 const INPUT_BYTES: usize = MAX_SCRIPT + 1;
-
-// An array of one item, as a function of its own: a proof then knows its length and doesn't go through its items.
-fn filled<T: Copy, const N: usize>(item: T) -> [T; N] {
-    [item; N]
-}
 
 // A script's steps, on slices as long as its header says.
 fn run_steps(out: Stdout, script: Script) -> io::Result<()> {

@@ -6,7 +6,7 @@ use crate::step::BadStep;
 use crate::stop::Stop;
 use evm::landing::{Landing, lands};
 use job_text::{TEXT_BYTES, write_text};
-use jobs::JobRun;
+use reads::filled;
 use std::io::Print;
 use std::ops::Range;
 
@@ -51,13 +51,9 @@ impl<'a> Machine<'a> {
     // The job in bytes of the pool, on slices of its own. With room for the longest text no text is too short (`prints`, job_text JobAlone).
     pub(crate) fn run_job(&self, part: Range<usize>) -> Result<(), Stop> {
         let job = part_of(self.pool, part)?;
-        let mut text = [0; TEXT_BYTES];
-        if let JobRun::Ran {
-            reply: _,
-            text_length,
-        } = write_text(job, &mut text)
-        {
-            self.out.write_all(&text[..text_length])?;
+        let mut text: [u8; TEXT_BYTES] = filled(0);
+        if let Ok(run) = write_text(job, &mut text) {
+            self.out.write_all(&text[..run.text_length])?;
         }
         Ok(())
     }
