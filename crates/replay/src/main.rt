@@ -19,9 +19,6 @@ use script::{MAX_BYTES, MAX_LISTING, MAX_RESULT, MAX_SCRIPT, MAX_TABLE, MAX_WORD
 use std::io;
 use std::io::{Print, Stdout};
 
-// Room for one byte more than the longest script, so that a longer one is seen.
-const INPUT_BYTES: usize = MAX_SCRIPT + 1;
-
 // A script's steps, on slices as long as its header says.
 fn run_steps(out: Stdout, script: Script) -> io::Result<()> {
     let mut bytes: [u8; MAX_BYTES] = filled(UNWRITTEN_BYTE);
@@ -54,7 +51,8 @@ fn run(out: Stdout, script: &[u8]) -> io::Result<()> {
 }
 
 fn main(rt: HostRuntime) -> io::Result<()> {
-    let mut input: [u8; INPUT_BYTES] = filled(0);
+    // One byte more than the longest script has, so that a longer one is seen.
+    let mut input: [u8; MAX_SCRIPT + 1] = filled(0);
     let n = read_full(&mut rt.stdin(), &mut input)?;
     run(rt.stdout(), &input[..n])
 }
