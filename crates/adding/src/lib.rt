@@ -12,15 +12,27 @@ ghost use Rattle.numbers.specs.Numbers.{store_in, built_number};
 ghost use Rattle.adding.specs.Adding.{kind_number, bytes_section, last_kind_is, ops_section_passes};
 
 use numbers::{counts_in, refusal_number, state_of};
-use records::{Assembler, Soundness, StoredSection, check_last, kind, write_words};
+use records::{Assembler, StoredSection, check_last, kind, write_words};
 use slices::write_bytes;
 use units::Refusal;
 
 // The two kinds of section that hold bytes.
-#[derive(Clone, Copy)]
+#[derive(Clone, Copy, Debug, PartialEq, Eq)]
 pub enum BytesKind {
     Ops,
     Data,
+}
+
+// The kind word of its section.
+impl From<BytesKind> for u32 {
+    ghost from_gives = { λ kind n. n ≡ kind_number kind };
+
+    fn from(kind: BytesKind) -> u32 {
+        match kind {
+            BytesKind::Ops => kind::OPS,
+            BytesKind::Data => kind::DATA,
+        }
+    }
 }
 
 // Adds op bytes or data, all or nothing: they extend a last section of their kind, else a section is added. Refusals: 6, 4, 5.
@@ -39,8 +51,8 @@ pub fn add_bytes(
         (store_in state bytes.old words.old)).words }
 {
     let store = counts_in(state);
-    if let Soundness::Damaged(section) = check_last(store, bytes, words) {
-        return refusal_number(Refusal::Damaged { section });
+    if let Err(damage) = check_last(store, bytes, words) {
+        return refusal_number(damage.into());
     }
     if bytes_pass(store, bytes, added.len()) {
         return refusal_number(Refusal::BytesFull);
@@ -48,7 +60,7 @@ pub fn add_bytes(
     let at = store.bytes;
     let end = at + (added.len() as u32);
     let sections = store.sections;
-    let number = kind_number(kind);
+    let number = u32::from(kind);
     if last_kind_is(sections, words, number) {
         write_bytes(bytes, at as usize, added);
         set_end(words, sections, end);
@@ -80,8 +92,8 @@ pub fn add_run(state: u64, bytes: &mut [u8], words: &mut [u32], run: &[u8]) -> u
         (store_in state bytes.old words.old)).words }
 {
     let store = counts_in(state);
-    if let Soundness::Damaged(section) = check_last(store, bytes, words) {
-        return refusal_number(Refusal::Damaged { section });
+    if let Err(damage) = check_last(store, bytes, words) {
+        return refusal_number(damage.into());
     }
     if bytes_pass(store, bytes, 1) {
         return refusal_number(Refusal::BytesFull);
@@ -108,8 +120,8 @@ pub fn add_section(
         (store_in state bytes.now words.old)).words }
 {
     let store = counts_in(state);
-    if let Soundness::Damaged(section) = check_last(store, bytes, words) {
-        return refusal_number(Refusal::Damaged { section });
+    if let Err(damage) = check_last(store, bytes, words) {
+        return refusal_number(damage.into());
     }
     let sections = store.sections;
     if no_section_left(sections, words) {
@@ -122,16 +134,8 @@ pub fn add_section(
     })
 }
 
-fn kind_number(kind: BytesKind) -> u32
-    ensures { result ≡ kind_number kind }
-{
-    match kind {
-        BytesKind::Ops => kind::OPS,
-        BytesKind::Data => kind::DATA,
-    }
-}
-
 // 4: the stored bytes and those added pass slice or limit.
+#[tactic(auto, using(crate::proofs::Parts::pass_slice, crate::proofs::Parts::pass_limit))]
 fn bytes_pass(store: Assembler, bytes: &[u8], added: usize) -> bool
     requires { added < 2 ^ 63 }
     ensures { result ≡ bytes_over bytes.now store.bytes added }
@@ -144,6 +148,7 @@ fn bytes_pass(store: Assembler, bytes: &[u8], added: usize) -> bool
 }
 
 // 5: one section more passes slice or limit.
+#[tactic(auto, using(calls::proofs::Rooms::left_limit, calls::proofs::Rooms::left_slice))]
 fn no_section_left(sections: u32, words: &[u32]) -> bool
     ensures { result ≡ no_section_left words_per_section sections words.now }
 {
@@ -155,6 +160,7 @@ fn no_section_left(sections: u32, words: &[u32]) -> bool
 }
 
 // There is a last section, and its kind is this.
+#[tactic(auto, using(crate::proofs::Parts::kind_none, crate::proofs::Parts::kind_last))]
 fn last_kind_is(sections: u32, words: &[u32], kind: u32) -> bool
     requires { words_per_section * sections ≤ length words.now }
     ensures { result ≡ last_kind_is words_per_section sections words.now kind }

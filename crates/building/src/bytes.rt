@@ -26,11 +26,7 @@ pub fn push_op_byte(state: u64, bytes: &mut [u8], words: &mut [u32], byte: u8) -
     ensures words { words.new ≡ (push_after words_per_section (push_op_byte byte)
         (store_in state bytes.old words.old)).words }
 {
-    let tried = short::extend_op(state, bytes, words, byte);
-    if tried != 0 {
-        return tried;
-    }
-    begin_op(state, bytes, words, byte)
+    push_op(state, bytes, words, byte)
 }
 
 // Adds a run of op bytes, all or nothing: as `push_op_byte` of each in turn, and the first refusal is the run's. Refusals: 6; 4, no room
@@ -46,13 +42,11 @@ pub fn push_op_bytes(state: u64, bytes: &mut [u8], words: &mut [u32], run: &[u8]
     if run.len() == 0 {
         return state;
     }
-    let extended = short::extend_ops(state, bytes, words, run);
-    if extended != 0 {
-        return extended;
+    if let Some(next) = short::extend_ops(state, bytes, words, run) {
+        return next;
     }
-    let begun = short::begin_ops(state, bytes, words, run);
-    if begun != 0 {
-        return begun;
+    if let Some(next) = short::begin_ops(state, bytes, words, run) {
+        return next;
     }
     add_run(state, bytes, words, run)
 }
@@ -69,12 +63,7 @@ pub fn push_swap(state: u64, bytes: &mut [u8], words: &mut [u32], depth: u8) -> 
     if is_bad_swap(depth) {
         return refusal_number(Refusal::BadDepth);
     }
-    let op = swap_op(depth);
-    let tried = short::extend_op(state, bytes, words, op);
-    if tried != 0 {
-        return tried;
-    }
-    begin_op(state, bytes, words, op)
+    push_op(state, bytes, words, swap_op(depth))
 }
 
 // Adds DUP1 to DUP16, for depth 0 to 15. Refusals: 1 (above 15), 6, 4, 5.
@@ -89,12 +78,7 @@ pub fn push_dup(state: u64, bytes: &mut [u8], words: &mut [u32], depth: u8) -> u
     if MAX_DUP < depth {
         return refusal_number(Refusal::BadDepth);
     }
-    let op = evm::op::DUP1 + depth;
-    let tried = short::extend_op(state, bytes, words, op);
-    if tried != 0 {
-        return tried;
-    }
-    begin_op(state, bytes, words, op)
+    push_op(state, bytes, words, evm::op::DUP1 + depth)
 }
 
 // Exchanges the items at depths n and m: one SWAP of the other where one is 0, else SWAP n, m, n.
@@ -119,9 +103,8 @@ pub fn push_exchange(state: u64, bytes: &mut [u8], words: &mut [u32], n: u8, m: 
     let first = swap_op(n);
     let second = swap_op(m);
     let ops = [first, second, first];
-    let tried = short::extend_ops(state, bytes, words, &ops);
-    if tried != 0 {
-        return tried;
+    if let Some(next) = short::extend_ops(state, bytes, words, &ops) {
+        return next;
     }
     // Made anew: lent twice, one array would lie in memory on the short way.
     let again = [first, second, first];
@@ -137,12 +120,26 @@ pub fn push_data(state: u64, bytes: &mut [u8], words: &mut [u32], data: &[u8]) -
     ensures words { words.new ≡ (push_after words_per_section (push_data «data».now)
         (store_in state bytes.old words.old)).words }
 {
-    let tried = short::extend_data(state, bytes, words, data);
-    if tried != 0 {
-        return tried;
+    if let Some(next) = short::extend_data(state, bytes, words, data) {
+        return next;
     }
     // Taken anew: lent on as it is, the slice would go by way of memory on the short way too.
     add_bytes(state, bytes, words, BytesKind::Data, &data[..])
+}
+
+// Adds an op byte: at once where it extends a last Ops section.
+fn push_op(state: u64, bytes: &mut [u8], words: &mut [u32], op: u8) -> u64
+    ensures reply { result ≡ built_number (add_reply words_per_section (ops (op ∷ []))
+        (store_in state bytes.old words.old)) }
+    ensures bytes { bytes.new ≡ (add_after words_per_section (ops (op ∷ []))
+        (store_in state bytes.old words.old)).bytes }
+    ensures words { words.new ≡ (add_after words_per_section (ops (op ∷ []))
+        (store_in state bytes.old words.old)).words }
+{
+    if let Some(next) = short::extend_op(state, bytes, words, op) {
+        return next;
+    }
+    begin_op(state, bytes, words, op)
 }
 
 // Adds an op byte that extends no section at once. With several callers it stays a function of its own: inlined into them, it gives
@@ -155,9 +152,8 @@ fn begin_op(state: u64, bytes: &mut [u8], words: &mut [u32], op: u8) -> u64
     ensures words { words.new ≡ (add_after words_per_section (ops (op ∷ []))
         (store_in state bytes.old words.old)).words }
 {
-    let tried = short::begin_op(state, bytes, words, op);
-    if tried != 0 {
-        return tried;
+    if let Some(next) = short::begin_op(state, bytes, words, op) {
+        return next;
     }
     let ops = [op];
     add_bytes(state, bytes, words, BytesKind::Ops, &ops)

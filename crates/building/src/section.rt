@@ -23,9 +23,8 @@ pub fn push_mark(state: u64, bytes: &[u8], words: &mut [u32], mark: u32) -> u64
     if is_large(mark) {
         return refusal_number(Refusal::LargeMark);
     }
-    let tried = short::put_section(state, bytes, words, kind::MARK, mark, 0);
-    if tried != 0 {
-        return tried;
+    if let Some(next) = short::put_section(state, bytes, words, kind::MARK, mark, 0) {
+        return next;
     }
     push_words(state, &bytes[..], words, kind::MARK, mark, 0)
 }
@@ -43,9 +42,8 @@ pub fn push_direct(state: u64, bytes: &[u8], words: &mut [u32], mark: u32, form:
     if is_large(mark) {
         return refusal_number(Refusal::LargeMark);
     }
-    let tried = short::put_section(state, bytes, words, kind::DIRECT, mark, form);
-    if tried != 0 {
-        return tried;
+    if let Some(next) = short::put_section(state, bytes, words, kind::DIRECT, mark, form) {
+        return next;
     }
     push_words(state, &bytes[..], words, kind::DIRECT, mark, form)
 }
@@ -71,9 +69,8 @@ pub fn push_delta(
         return refusal_number(Refusal::LargeMark);
     }
     let kind = delta_kind(form);
-    let tried = short::put_section(state, bytes, words, kind, start, end);
-    if tried != 0 {
-        return tried;
+    if let Some(next) = short::put_section(state, bytes, words, kind, start, end) {
+        return next;
     }
     push_words(state, &bytes[..], words, kind, start, end)
 }
@@ -111,9 +108,8 @@ fn push_words(
     ensures words { words.new ≡ (words_after words_per_section (stored_section kind first second)
         (store_in state bytes.now words.old)).words }
 {
-    let tried = short::put_section(state, bytes, words, kind, first, second);
-    if tried != 0 {
-        return tried;
+    if let Some(next) = short::put_section(state, bytes, words, kind, first, second) {
+        return next;
     }
     add_section(state, bytes, words, kind, first, second)
 }

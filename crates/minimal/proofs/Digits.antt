@@ -10,6 +10,7 @@ use lib.ListN.{length, get_or, take, drop, set, length-append, length-drop, drop
 use lib.Seq.{drop-cons, drop-set-add, drop-append-le, take_at, take_all}
 use lib.Dec.{ltb}
 use borrow.Author.Tests.{ltb-true, ltb-false}
+use Rattle.std.specs.Int.{w64, to_be_bytes}
 use Rattle.units.specs.Numbers.{number, big_endian}
 use Rattle.units.proofs.BigEndian.{AllBytes, least_bytes_leading, big_endian_leading}
 use Rattle.evm.specs.Opcodes.{push_op}
@@ -20,12 +21,9 @@ use Rattle.short.specs.Tried.{TriedSection}
 use Rattle.minimal.specs.Zeros.{LeadingZeros}
 
 -- a number's eight bytes
-pub eight_bytes : (v : ℕ)
-    → big_endian 8 v
-    ≡ v / 72057594037927936 % 256 ∷ v / 281474976710656 % 256 ∷ v / 1099511627776 % 256 ∷ v / 4294967296 % 256
-    ∷ v / 16777216 % 256 ∷ v / 65536 % 256 ∷ v / 256 % 256 ∷ v % 256 ∷ []
+pub eight_bytes : (v : ℕ) → to_be_bytes w64 v ≡ big_endian 8 v
 unfolding big_endian
-eight_bytes v = simp div-div-eq-div-mul
+eight_bytes v = sym (simp div-div-eq-div-mul)
 
 -- the opcode in its place before the bytes that it pushes
 pub opcode_before : (digits rest : List ℕ) (k op : ℕ) → k ≤ length digits
@@ -66,7 +64,3 @@ module _ (digits : List ℕ) (k : ℕ) (few : length digits ≤ 32) (all : AllBy
   push_zero e =
       ap (λ (x : List ℕ). push_op 0 ∷ x) (sym (drop_of_length-le digits {i = k} (omega (arith, e))))
       ∙ ap (λ (o : ℕ). o ∷ drop k digits) (omega (arith, e)) ∙ minimal_of
-
--- what was tried of a section was tried of an equal one
-pub tried_same : (s t : Section) → s ≡ t → {st : Store} {tried : ℕ} {bs ws : List ℕ} → TriedSection s st tried bs ws → TriedSection t st tried bs ws
-tried_same s t e {st = st} {tried = tried} {bs = bs} {ws = ws} all = subst (λ (x : Section). TriedSection x st tried bs ws) e all

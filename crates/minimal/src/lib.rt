@@ -3,13 +3,14 @@
 #![tactic(auto)]
 
 ghost use Rattle.std.specs.Prelude.{◌≡◌, ◌∷◌, ◌+◌, ◌-◌, ◌≤◌, length, take, drop, true};
-ghost use Rattle.units.specs.Numbers.{number, big_endian};
+ghost use Rattle.units.specs.Numbers.{number};
 ghost use Rattle.evm.specs.Opcodes.{push_op};
 ghost use Rattle.records.specs.Store.{words_per_section};
 ghost use Rattle.records.specs.Sections.{ops};
 ghost use Rattle.calls.specs.Calls.{minimal_push, push_minimal_u256, push_minimal_u64, push_minimal_u32, add_reply, add_after};
 ghost use Rattle.calls.specs.Calls.{push_reply, push_after};
 ghost use Rattle.numbers.specs.Numbers.{store_in, built_number};
+ghost use Rattle.short.specs.Tried.{TriedSection};
 ghost use Rattle.minimal.specs.Zeros.{LeadingZeros, looked};
 ghost use Rattle.minimal.specs.Groups.{ZerosFrom};
 
@@ -52,11 +53,7 @@ pub fn push_minimal_u64(state: u64, bytes: &mut [u8], words: &mut [u32], value: 
     ensures words { words.new ≡ (push_after words_per_section (push_minimal_u64 value)
         (store_in state bytes.old words.old)).words }
 {
-    let tried = short::extend_push(state, bytes, words, value);
-    if tried != 0 {
-        return tried;
-    }
-    add_number(state, bytes, words, value)
+    push_number(state, bytes, words, value)
 }
 
 // Pushes a number. Refusals: 6, 4, 5.
@@ -68,15 +65,25 @@ pub fn push_minimal_u32(state: u64, bytes: &mut [u8], words: &mut [u32], value: 
     ensures words { words.new ≡ (push_after words_per_section (push_minimal_u32 value)
         (store_in state bytes.old words.old)).words }
 {
-    let tried = short::extend_push(state, bytes, words, value as u64);
-    if tried != 0 {
-        return tried;
-    }
-    add_number(state, bytes, words, value as u64)
+    push_number(state, bytes, words, value as u64)
 }
 
-// Adds the minimal push of a number that the short way left, which asks for nine free bytes: by the scan. Small enough to be inlined into
-// its two callers.
+// Adds the minimal push of a number: at once where it extends a last Ops section, else by the scan.
+fn push_number(state: u64, bytes: &mut [u8], words: &mut [u32], value: u64) -> u64
+    ensures reply { result ≡ built_number (add_reply words_per_section (ops (minimal_push value))
+        (store_in state bytes.old words.old)) }
+    ensures bytes { bytes.new ≡ (add_after words_per_section (ops (minimal_push value))
+        (store_in state bytes.old words.old)).bytes }
+    ensures words { words.new ≡ (add_after words_per_section (ops (minimal_push value))
+        (store_in state bytes.old words.old)).words }
+{
+    if let Some(next) = short::extend_push(state, bytes, words, value) {
+        return next;
+    }
+    add_number(state, bytes, words, value)
+}
+
+// The same by the scan, of a number that the short way left, which asks for nine free bytes.
 fn add_number(state: u64, bytes: &mut [u8], words: &mut [u32], value: u64) -> u64
     ensures reply { result ≡ built_number (add_reply words_per_section (ops (minimal_push value))
         (store_in state bytes.old words.old)) }
@@ -85,7 +92,7 @@ fn add_number(state: u64, bytes: &mut [u8], words: &mut [u32], value: u64) -> u6
     ensures words { words.new ≡ (add_after words_per_section (ops (minimal_push value))
         (store_in state bytes.old words.old)).words }
 {
-    let digits = eight_bytes(value);
+    let digits = value.to_be_bytes();
     let zeros = leading_zeros(&digits).zeros;
     add_scanned(state, bytes, words, &digits, zeros)
 }
@@ -102,31 +109,40 @@ fn add_push(state: u64, bytes: &mut [u8], words: &mut [u32], digits: &[u8]) -> u
         (store_in state bytes.old words.old)).words }
 {
     let zeros = leading_zeros(digits).zeros;
-    if zeros + 1 == digits.len() {
-        let tried = short::extend_instruction(
+    if let Some(next) = extend_shortest(state, bytes, words, digits, zeros) {
+        return next;
+    }
+    // Taken anew: lent on as it is, the slice would be copied into memory on the short ways too.
+    add_scanned(state, bytes, words, &digits[..], zeros)
+}
+
+// The push of one byte or of none, where it extends a last Ops section.
+fn extend_shortest(
+    state: u64,
+    bytes: &mut [u8],
+    words: &mut [u32],
+    digits: &[u8],
+    zeros: usize,
+) -> Option<u64>
+    requires digits_len_bound { length digits.now ≤ 32 }
+    requires leading_zeros { LeadingZeros digits.now zeros }
+    ensures { TriedSection (ops (minimal_push (number digits.now))) (store_in state bytes.old words.old) result
+        bytes.new words.new }
+{
+    match digits.len() - zeros {
+        0 => short::extend_op(state, bytes, words, evm::op::PUSH0),
+        1 => short::extend_instruction(
             state,
             bytes,
             words,
             evm::op::PUSH0 + 1,
             &digits[zeros..],
-        );
-        if tried != 0 {
-            return tried;
-        }
-        // Taken anew, here and below: lent on as it is, the slice would be copied into memory on the short ways too.
-        return add_scanned(state, bytes, words, &digits[..], zeros);
+        ),
+        _ => None,
     }
-    if zeros == digits.len() {
-        let tried = short::extend_op(state, bytes, words, evm::op::PUSH0);
-        if tried != 0 {
-            return tried;
-        }
-        return add_scanned(state, bytes, words, &digits[..], zeros);
-    }
-    add_scanned(state, bytes, words, &digits[..], zeros)
 }
 
-// The same after the scan: at once where the push extends a last Ops section, else judged.
+// The push after the scan: at once where it extends a last Ops section, else judged.
 fn add_scanned(state: u64, bytes: &mut [u8], words: &mut [u32], digits: &[u8], zeros: usize) -> u64
     requires digits_len_bound { length digits.now ≤ 32 }
     requires leading_zeros { LeadingZeros digits.now zeros }
@@ -138,9 +154,8 @@ fn add_scanned(state: u64, bytes: &mut [u8], words: &mut [u32], digits: &[u8], z
         (store_in state bytes.old words.old)).words }
 {
     let op = evm::op::PUSH0 + ((digits.len() - zeros) as u8);
-    let tried = short::extend_instruction(state, bytes, words, op, &digits[zeros..]);
-    if tried != 0 {
-        return tried;
+    if let Some(next) = short::extend_instruction(state, bytes, words, op, &digits[zeros..]) {
+        return next;
     }
     let push = push_bytes(digits, zeros);
     let end = digits.len() + 1;
@@ -257,20 +272,4 @@ fn push_bytes(digits: &[u8], zeros: usize) -> [u8; 33]
     write_bytes(&mut push, 1, digits);
     push[zeros] = evm::op::PUSH0 + ((digits.len() - zeros) as u8);
     push
-}
-
-// A number's eight bytes, highest first.
-fn eight_bytes(value: u64) -> [u8; 8]
-    ensures { result ≡ big_endian 8 value }
-{
-    [
-        (value / 0x100_0000_0000_0000 % 256) as u8,
-        (value / 0x1_0000_0000_0000 % 256) as u8,
-        (value / 0x100_0000_0000 % 256) as u8,
-        (value / 0x1_0000_0000 % 256) as u8,
-        (value / 0x100_0000 % 256) as u8,
-        (value / 0x1_0000 % 256) as u8,
-        (value / 0x100 % 256) as u8,
-        (value % 256) as u8,
-    ]
 }

@@ -5,6 +5,7 @@ use native.Mathlib.Omega.{arith}
 use mathlib.Core.Path.{◌≡◌, refl, ap, ◌∙◌}
 use mathlib.Core.Bool.{true, false}
 use mathlib.Core.List.{List}
+use Rattle.std.specs.Prelude.{Some}
 use lib.Dec.{leb}
 use lib.ListN.{length}
 use borrow.Author.Tests.{le-ltb, ltb-false}
@@ -37,11 +38,11 @@ abbrev pub WordsAdded : StoredSection → Store → ℕ → List ℕ → Type 0
 WordsAdded x st answer ws = (answer ≡ built_number (words_reply words_per_section x st)) × (ws ≡ (words_after words_per_section x st).words)
 
 module _ (state : ℕ) (bytes words : List ℕ) where
-  -- a section that was tried in vain, and then judged
-  pub add_judged : (s : Section) {tried : ℕ} {bs ws : List ℕ} → TriedSection s (store_in state bytes words) tried bs ws → tried ≡ 0
+  -- a section that was tried in vain, with nothing changed, and then judged
+  pub add_judged : (s : Section) {bs ws : List ℕ} → (bs ≡ bytes) × (ws ≡ words)
       → {answer : ℕ} {bs' ws' : List ℕ} → Adds words_per_section s (store_in state bs ws) answer bs' ws'
       → Adds words_per_section s (store_in state bytes words) answer bs' ws'
-  add_judged s t z made = rw ((t.left z).0, (t.left z).1) at made
+  add_judged s left made = rw (left.0, left.1) at made
 
   -- a call that adds op bytes or data
   module _ (p : Push) (good : Judged p) {s : Section} (is : s ≡ added p) where
@@ -49,31 +50,32 @@ module _ (state : ℕ) (bytes words : List ℕ) where
         → Pushes words_per_section p (store_in state bytes words) answer bs ws
     pushed a = push_adds words_per_section p (store_in state bytes words) good.0 good.1.0 good.1.1 s _ _ _ is a
 
-    pub push_judged : {tried : ℕ} {bs ws : List ℕ} → TriedSection s (store_in state bytes words) tried bs ws → tried ≡ 0
+    pub push_judged : {bs ws : List ℕ} → (bs ≡ bytes) × (ws ≡ words)
         → {answer : ℕ} {bs' ws' : List ℕ} → Adds words_per_section s (store_in state bs ws) answer bs' ws'
         → Pushes words_per_section p (store_in state bytes words) answer bs' ws'
-    push_judged t z made = pushed (add_judged _ t z made)
+    push_judged left made = pushed (add_judged _ left made)
 
-  -- a run of op bytes that was tried: accepted as a whole, it is accepted byte by byte
-  module _ (run : List ℕ) {tried : ℕ} {bs ws : List ℕ} (t : TriedSection (ops run) (store_in state bytes words) tried bs ws) where
-    pub op_bytes_done : (length run ≡ 0 → ⊥) → (tried ≡ 0 → ⊥) → OpBytes words_per_section run (store_in state bytes words) tried bs ws
+  -- a run of op bytes: accepted as a whole, it is accepted byte by byte
+  module _ (run : List ℕ) {answer : ℕ} {bs ws : List ℕ} where
+    pub op_bytes_done : (length run ≡ 0 → ⊥) → TriedSection (ops run) (store_in state bytes words) (Some answer) bs ws
+        → OpBytes words_per_section run (store_in state bytes words) answer bs ws
     unfolding bytes_pass
-    op_bytes_done some h =
+    op_bytes_done some done =
         let st = store_in state bytes words in
-        let tests = add_stored words_per_section (ops run) st (t.stored h) in
+        let tests = add_stored words_per_section (ops run) st done.stored in
         let fits = ltb-false (min (length bytes) max_bytes) (state % 2 ^ 32 + length run) tests.1 in
         let byte : no_byte_left st ≡ false = le-ltb (min (length bytes) max_bytes) (state % 2 ^ 32 + 1) (omega (arith, fits, some)) in
-        op_bytes_judged words_per_section run st _ _ _ (omega arith) some (once-adds words_per_section run st tests.0 byte tests.2 _ _ _ (t.done h))
+        op_bytes_judged words_per_section run st _ _ _ (omega arith) some (once-adds words_per_section run st tests.0 byte tests.2 _ _ _ done.all)
 
     -- or tried in vain, and then judged
-    pub op_bytes_left : tried ≡ 0 → {answer : ℕ} {bs' ws' : List ℕ} → OpBytes words_per_section run (store_in state bs ws) answer bs' ws'
-        → OpBytes words_per_section run (store_in state bytes words) answer bs' ws'
-    op_bytes_left z made = rw ((t.left z).0, (t.left z).1) at made
+    pub op_bytes_left : {bs' ws' : List ℕ} → (bs' ≡ bytes) × (ws' ≡ words) → OpBytes words_per_section run (store_in state bs' ws') answer bs ws
+        → OpBytes words_per_section run (store_in state bytes words) answer bs ws
+    op_bytes_left left made = rw (left.0, left.1) at made
 
   -- three words that were tried in vain, and then judged
-  pub words_judged : (x : StoredSection) {tried : ℕ} {ws : List ℕ} → TriedWords x (store_in state bytes words) tried bytes ws → tried ≡ 0
+  pub words_judged : (x : StoredSection) {ws : List ℕ} → ws ≡ words
       → {answer : ℕ} {ws' : List ℕ} → WordsAdded x (store_in state bytes ws) answer ws' → WordsAdded x (store_in state bytes words) answer ws'
-  words_judged x t z made = rw (t.left z).1 at made
+  words_judged x left made = rw left at made
 
   -- a call that adds a mark or a reference, by its words
   module _ (p : Push) (good : Judged p) (alone : StandsAlone (added p)) {x : StoredSection} (is : x ≡ words_of 0 (added p)) where
@@ -86,13 +88,13 @@ module _ (state : ℕ) (bytes words : List ℕ) where
         let all = pushed p good refl (reply, (refl, after)) in
         (all.0, all.1.1)
 
-    module _ {tried : ℕ} {ws : List ℕ} (t : TriedWords x (store_in state bytes words) tried bytes ws) where
-      pub put_done : (tried ≡ 0 → ⊥) → Leaves p (store_in state bytes words) tried ws
-      put_done h = put ((t.done h).0, (t.done h).1.1)
+    pub put_done : {answer : ℕ} {ws : List ℕ} → TriedWords x (store_in state bytes words) (Some answer) bytes ws
+        → Leaves p (store_in state bytes words) answer ws
+    put_done done = put (done.all.0, done.all.1.1)
 
-      pub put_judged : tried ≡ 0 → {answer : ℕ} {ws' : List ℕ} → WordsAdded x (store_in state bytes ws) answer ws'
-          → Leaves p (store_in state bytes words) answer ws'
-      put_judged z made = put (words_judged x t z made)
+    pub put_judged : {ws : List ℕ} → ws ≡ words → {answer : ℕ} {ws' : List ℕ} → WordsAdded x (store_in state bytes ws) answer ws'
+        → Leaves p (store_in state bytes words) answer ws'
+    put_judged left made = put (words_judged x left made)
 
 -- what pushing a reference of a form answers, and leaves
 pub by_form : (n : ℕ) → is_form n ≡ true → (m : MarkReference) (st : Store) {answer : ℕ} {ws : List ℕ}

@@ -5,6 +5,7 @@ use native.Mathlib.Omega.{arith}
 use mathlib.Core.Path.{◌≡◌, refl, sym, ap, ◌∙◌, subst}
 use mathlib.Core.Bool.{Bool, true, false, cond, and-false}
 use mathlib.Core.List.{List}
+use Rattle.std.specs.Prelude.{Some}
 use lib.Dec.{ltb, eqb}
 use lib.ListN.{length}
 use borrow.Author.Tests.{le-ltb, lt-ltb, eq-eqb, ne_eqb, eqb-true, eqb-false}
@@ -22,25 +23,21 @@ use Rattle.numbers.specs.Numbers.{packed, store_in, built_number}
 use Rattle.undamaged.proofs.Soundness.{last_sound_iff}
 use Rattle.calls.specs.Answers.{IsStored}
 use Rattle.numbers.proofs.Adds.{add_joined, add-appended, stored_joined, stored-appended}
-use Rattle.short.specs.Tried.{Tried, TriedSection, TriedWords, data_section, span_section}
+use Rattle.short.specs.Tried.{Done, TriedSection, TriedWords, data_section, span_section}
 use Rattle.short.specs.Tests.{Takes, Extends, Begins, end_moved}
 use Rattle.short.proofs.Whole.{whole_bytes}
 
--- ---- the two answers
+-- ---- what was done
 
--- the test said no
-pub nothing_tried : {reply : BuiltReply} {after before : Store} → Tried reply after before 0 before.bytes before.words
-nothing_tried = record { left = λ _. (refl, refl); done = λ n. absurd (n refl); stored = λ n. absurd (n refl) }
-
--- it said yes, the call is accepted, and the next state is no 0
-pub all_done : {reply : BuiltReply} {after before : Store} {answer : ℕ} {bytes words : List ℕ} → 0 < answer → IsStored reply
-    → (answer ≡ built_number reply) × ((bytes ≡ after.bytes) × (words ≡ after.words)) → Tried reply after before answer bytes words
-all_done h t all = record { left = λ z. absurd (omega (arith, h, z)); done = λ _. all; stored = λ _. t }
+-- the call is accepted
+all_done : {reply : BuiltReply} {after : Store} {next : ℕ} {bytes words : List ℕ} → IsStored reply
+    → (next ≡ built_number reply) × ((bytes ≡ after.bytes) × (words ≡ after.words)) → Done reply after next bytes words
+all_done t all = record { all = all; stored = t }
 
 -- the answer and the slices as the code has them
-pub tried_as : {reply : BuiltReply} {after before : Store} {answer answer' : ℕ} {bytes bytes' words words' : List ℕ}
-    → answer ≡ answer' → bytes ≡ bytes' → words ≡ words' → Tried reply after before answer' bytes' words' → Tried reply after before answer bytes words
-tried_as a b c all = rw (a, b, c) all
+pub done_as : {reply : BuiltReply} {after : Store} {next next' : ℕ} {bytes bytes' words words' : List ℕ}
+    → next ≡ next' → bytes ≡ bytes' → words ≡ words' → Done reply after next' bytes' words' → Done reply after next bytes words
+done_as a b c all = rw (a, b, c) all
 
 -- ---- stores that the tests took
 
@@ -92,7 +89,7 @@ module _ (state : ℕ) (bytes words : List ℕ) where
   -- bytes behind those of the last section
   bytes_extended :
       (s : Section) (k : ℕ) → 0 < k → k < 3 → ((kind : ℕ) → extends kind s ≡ eqb kind k) → Extends words_per_section k (length (bytes_of s)) here
-      → TriedSection s here (state + length (bytes_of s)) (over bytes (state % 2 ^ 32) (bytes_of s)) (end_moved words_per_section state words (length (bytes_of s)))
+      → TriedSection s here (Some (state + length (bytes_of s))) (over bytes (state % 2 ^ 32) (bytes_of s)) (end_moved words_per_section state words (length (bytes_of s)))
   unfolding bytes_pass joins
   bytes_extended s k l h same e =
       let n = length (bytes_of s) in
@@ -104,16 +101,16 @@ module _ (state : ℕ) (bytes words : List ℕ) where
       let joining : joins words_per_section s here ≡ true = rw (some, same kind, kinds) in
       let all = add_joined words_per_section s here sound room joining in
       let next : state + n ≡ packed 0 (state / 2 ^ 32) (state % 2 ^ 32 + n) = omega arith in
-      all_done (omega (arith, e.some)) (stored_joined words_per_section s here sound room joining) (next ∙ all.0, all.1)
+      all_done (stored_joined words_per_section s here sound room joining) (next ∙ all.0, all.1)
 
   -- op bytes or data, by the kind
   pub span_extended :
       (k : ℕ) (bs : List ℕ) → 0 < k → k < 3 → Extends words_per_section k (length bs) here
-      → TriedSection (span_section k bs) here (state + length bs) (over bytes (state % 2 ^ 32) bs) (end_moved words_per_section state words (length bs))
+      → TriedSection (span_section k bs) here (Some (state + length bs)) (over bytes (state % 2 ^ 32) bs) (end_moved words_per_section state words (length bs))
   span_extended k bs l h e = go (eqb k data_kind) refl
     where
       go : (t : Bool) → eqb k data_kind ≡ t
-          → TriedSection (cond t (data_section bs) (ops bs)) here (state + length bs) (over bytes (state % 2 ^ 32) bs) (end_moved words_per_section state words (length bs))
+          → TriedSection (cond t (data_section bs) (ops bs)) here (Some (state + length bs)) (over bytes (state % 2 ^ 32) bs) (end_moved words_per_section state words (length bs))
       go true t = bytes_extended (data_section bs) k l h (λ kind. ap (eqb kind) (sym (eqb-true k data_kind t))) e
       go false t =
           let is_ops : ops_kind ≡ k = omega (arith, eqb-false k data_kind t) in
@@ -121,7 +118,7 @@ module _ (state : ℕ) (bytes words : List ℕ) where
 
   -- op bytes that begin a section
   pub ops_begun : (bs : List ℕ) → Begins words_per_section (length bs) here
-      → TriedSection (ops bs) here (state + 2 ^ 32 + length bs) (over bytes (state % 2 ^ 32) bs)
+      → TriedSection (ops bs) here (Some (state + 2 ^ 32 + length bs)) (over bytes (state % 2 ^ 32) bs)
       (over words (words_per_section * (state / 2 ^ 32)) (record_words words_per_section (stored_section ops_kind (state % 2 ^ 32) (state % 2 ^ 32 + length bs))))
   unfolding bytes_pass joins
   ops_begun bs b =
@@ -133,12 +130,12 @@ module _ (state : ℕ) (bytes words : List ℕ) where
       let free = takes_free here b.takes in
       let all = add-appended words_per_section (ops bs) here sound room apart free in
       let next : state + 2 ^ 32 + length bs ≡ packed 0 (state / 2 ^ 32 + 1) (state % 2 ^ 32 + length bs) = omega arith in
-      all_done (omega arith) (stored-appended words_per_section (ops bs) here sound room apart free) (next ∙ all.0, all.1)
+      all_done (stored-appended words_per_section (ops bs) here sound room apart free) (next ∙ all.0, all.1)
 
   -- three words after a last section
   pub words_put : (x : StoredSection) → Takes words_per_section here
-      → TriedWords x here (state + 2 ^ 32) bytes (over words (words_per_section * (state / 2 ^ 32)) (record_words words_per_section x))
+      → TriedWords x here (Some (state + 2 ^ 32)) bytes (over words (words_per_section * (state / 2 ^ 32)) (record_words words_per_section x))
   words_put x t =
       let all = words_appended words_per_section x here (takes_sound here t) (takes_free here t) in
       let next : state + 2 ^ 32 ≡ packed 0 (state / 2 ^ 32 + 1) (state % 2 ^ 32) = omega arith in
-      all_done (omega arith) (subst IsStored all.0 tt) (next ∙ ap built_number all.0, (sym (words_keep_bytes words_per_section x here), all.1))
+      all_done (subst IsStored all.0 tt) (next ∙ ap built_number all.0, (sym (words_keep_bytes words_per_section x here), all.1))

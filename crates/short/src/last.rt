@@ -11,6 +11,7 @@ use records::{Assembler, kind};
 const USUAL_FORM: u32 = 8;
 
 // A section can be read and, with bytes, ends at the stored count. Of a direct reference only the usual form is taken.
+#[tactic(auto, using(crate::proofs::Whole::whole_reference))]
 pub(crate) fn is_whole(words: &[u32], i: usize, stored: u32) -> bool
     requires { words_per_section * (i + 1) ≤ length words.now }
     ensures { result ≡ true → broken_last (words_at words_per_section words.now i) stored ≡ false }
@@ -62,6 +63,7 @@ fn ends_at(first: u32, second: u32, stored: u32) -> bool
 }
 
 // The fields of a reference of this kind.
+#[tactic(auto, using(crate::proofs::Whole::direct_readable, crate::proofs::Whole::delta_readable))]
 fn is_reference(kind: u32, first: u32, second: u32) -> bool
     requires { (3 ≤ kind) × (kind ≤ 13) }
     ensures { result ≡ true → unreadable (read_section (stored_section kind first second)) ≡ false }

@@ -1,5 +1,5 @@
 // The short ways of the building calls: what most calls come to, found by a few tests and written at once, on the state's own number.
-// Each answers the next state, or 0 with nothing changed where its test says no: then the caller has every case judged (`adding`).
+// Each answers the next state, or None with nothing changed where its test says no: then the caller has every case judged (`adding`).
 // Nothing here goes by way of memory: every function is small enough to be inlined.
 #![tactic(auto)]
 
@@ -28,46 +28,46 @@ const DATA_WORD: usize = 32;
 const LONGEST_IMMEDIATE: usize = 32;
 
 // An op byte that extends a last Ops section.
-pub fn extend_op(state: u64, bytes: &mut [u8], words: &mut [u32], op: u8) -> u64
+pub fn extend_op(state: u64, bytes: &mut [u8], words: &mut [u32], op: u8) -> Option<u64>
     ensures { TriedSection (ops (op ∷ [])) (store_in state bytes.old words.old) result
         bytes.new words.new }
 {
     if !extends(state, bytes, words, kind::OPS, 1) {
-        return 0;
+        return None;
     }
     bytes[(state % numbers::SECTION) as usize] = op;
-    move_end(state, words, 1)
+    Some(move_end(state, words, 1))
 }
 
 // An op byte that begins an Ops section.
-pub fn begin_op(state: u64, bytes: &mut [u8], words: &mut [u32], op: u8) -> u64
+pub fn begin_op(state: u64, bytes: &mut [u8], words: &mut [u32], op: u8) -> Option<u64>
     ensures { TriedSection (ops (op ∷ [])) (store_in state bytes.old words.old) result
         bytes.new words.new }
 {
     if !begins_ops(state, bytes, words, 1) {
-        return 0;
+        return None;
     }
     let stored = (state % numbers::SECTION) as u32;
     bytes[stored as usize] = op;
-    append_words(state, words, kind::OPS, stored, stored + 1) + 1
+    Some(append_words(state, words, kind::OPS, stored, stored + 1) + 1)
 }
 
 // Op bytes that begin an Ops section.
-pub fn begin_ops(state: u64, bytes: &mut [u8], words: &mut [u32], added: &[u8]) -> u64
+pub fn begin_ops(state: u64, bytes: &mut [u8], words: &mut [u32], added: &[u8]) -> Option<u64>
     ensures { TriedSection (ops added.now) (store_in state bytes.old words.old) result
         bytes.new words.new }
 {
     if !begins_ops(state, bytes, words, added.len()) {
-        return 0;
+        return None;
     }
     let stored = (state % numbers::SECTION) as u32;
     let count = added.len() as u32;
     slices::write_bytes(bytes, stored as usize, added);
-    append_words(state, words, kind::OPS, stored, stored + count) + (count as u64)
+    Some(append_words(state, words, kind::OPS, stored, stored + count) + (count as u64))
 }
 
 // Op bytes that extend a last Ops section.
-pub fn extend_ops(state: u64, bytes: &mut [u8], words: &mut [u32], added: &[u8]) -> u64
+pub fn extend_ops(state: u64, bytes: &mut [u8], words: &mut [u32], added: &[u8]) -> Option<u64>
     ensures { TriedSection (ops added.now) (store_in state bytes.old words.old) result
         bytes.new words.new }
 {
@@ -82,25 +82,25 @@ pub fn extend_instruction(
     words: &mut [u32],
     op: u8,
     immediate: &[u8],
-) -> u64
+) -> Option<u64>
     ensures { TriedSection (ops (op ∷ immediate.now)) (store_in state bytes.old words.old) result
         bytes.new words.new }
 {
     if LONGEST_IMMEDIATE < immediate.len() {
-        return 0;
+        return None;
     }
     let count = 1 + immediate.len();
     if !extends(state, bytes, words, kind::OPS, count) {
-        return 0;
+        return None;
     }
     let at = (state % numbers::SECTION) as usize;
     bytes[at] = op;
     slices::write_bytes(bytes, at + 1, immediate);
-    move_end(state, words, count as u32)
+    Some(move_end(state, words, count as u32))
 }
 
 // Data that extends a last Data section.
-pub fn extend_data(state: u64, bytes: &mut [u8], words: &mut [u32], added: &[u8]) -> u64
+pub fn extend_data(state: u64, bytes: &mut [u8], words: &mut [u32], added: &[u8]) -> Option<u64>
     ensures { TriedSection (data_section added.now) (store_in state bytes.old words.old) result
         bytes.new words.new }
 {
@@ -113,31 +113,31 @@ pub fn extend_data(state: u64, bytes: &mut [u8], words: &mut [u32], added: &[u8]
 }
 
 // Op bytes or data, by their kind.
-fn extend_bytes(state: u64, bytes: &mut [u8], words: &mut [u32], kind: u32, added: &[u8]) -> u64
+fn extend_bytes(state: u64, bytes: &mut [u8], words: &mut [u32], kind: u32, added: &[u8]) -> Option<u64>
     requires { (0 < kind) × (kind < 3) }
     ensures { TriedSection (span_section kind added.now) (store_in state bytes.old words.old) result
         bytes.new words.new }
 {
     if !extends(state, bytes, words, kind, added.len()) {
-        return 0;
+        return None;
     }
     slices::write_bytes(bytes, (state % numbers::SECTION) as usize, added);
-    move_end(state, words, added.len() as u32)
+    Some(move_end(state, words, added.len() as u32))
 }
 
 // The minimal push of a number that extends a last Ops section.
-pub fn extend_push(state: u64, bytes: &mut [u8], words: &mut [u32], value: u64) -> u64
+pub fn extend_push(state: u64, bytes: &mut [u8], words: &mut [u32], value: u64) -> Option<u64>
     ensures { TriedSection (ops (minimal_push value)) (store_in state bytes.old words.old) result
         bytes.new words.new }
 {
     if !extends(state, bytes, words, kind::OPS, LONGEST_PUSH) {
-        return 0;
+        return None;
     }
     let at = (state % numbers::SECTION) as usize;
     let count = least_bytes(value);
     bytes[at] = evm::op::PUSH0 + (count as u8);
     write_number(bytes, at + 1, count, value);
-    move_end(state, words, 1 + (count as u32))
+    Some(move_end(state, words, 1 + (count as u32)))
 }
 
 // Three words after a last section: a mark or a reference, whose numbers the caller has judged.
@@ -148,12 +148,12 @@ pub fn put_section(
     kind: u32,
     first: u32,
     second: u32,
-) -> u64
+) -> Option<u64>
     ensures { TriedWords (stored_section kind first second) (store_in state bytes.now words.old) result
         bytes.now words.new }
 {
     if !takes_section(state, bytes, words) {
-        return 0;
+        return None;
     }
-    append_words(state, words, kind, first, second)
+    Some(append_words(state, words, kind, first, second))
 }

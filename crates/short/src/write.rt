@@ -36,13 +36,8 @@ pub(crate) fn move_end(state: u64, words: &mut [u32], added: u32) -> u64
 pub(crate) fn least_bytes(value: u64) -> usize
     ensures { (result ≡ least_bytes 32 value) × (result ≤ 8) }
 {
-    let mut count = 0;
-    let mut rest = value;
-    while rest != 0 {
-        rest = rest / 256;
-        count += 1;
-    }
-    count
+    let bits = u64::BITS - value.leading_zeros();
+    bits.div_ceil(8) as usize
 }
 
 // A number in so many bytes, highest first; written from the lowest on.
@@ -50,11 +45,9 @@ pub(crate) fn write_number(bytes: &mut [u8], at: usize, count: usize, value: u64
     requires { at + count ≤ length bytes.old }
     ensures { bytes.new ≡ over bytes.old at (big_endian count value) }
 {
-    let mut left = count;
     let mut rest = value;
-    while left != 0 {
-        left -= 1;
+    for left in (0..count).rev() {
         bytes[at + left] = (rest % 256) as u8;
-        rest = rest / 256;
+        rest /= 256;
     }
 }

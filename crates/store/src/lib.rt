@@ -13,15 +13,13 @@ use numbers::{NUMBER, SECTION, counts_in, state_of};
 use records::Assembler;
 use units::{AsmReference, MarkId, Refusal};
 
-// What a building call answers: the store's counts after it, or a refusal with nothing changed.
-#[derive(Clone, Copy)]
-pub enum Built {
-    Stored(Assembler),
-    Refused(Refusal),
-}
-
 // Adds a mark. Refusals: 3 large mark, 6 damaged, 5 sections full.
-pub fn push_mark(store: Assembler, bytes: &[u8], words: &mut [u32], mark: MarkId) -> Built
+pub fn push_mark(
+    store: Assembler,
+    bytes: &[u8],
+    words: &mut [u32],
+    mark: MarkId,
+) -> Result<Assembler, Refusal>
     ensures reply { built_reply result ≡ push_reply words_per_section (push_mark mark.0)
         (store_of store bytes.now words.old) }
     ensures words { words.new ≡ (push_after words_per_section (push_mark mark.0)
@@ -31,7 +29,12 @@ pub fn push_mark(store: Assembler, bytes: &[u8], words: &mut [u32], mark: MarkId
 }
 
 // Adds a reference. Refusals: 3 large mark, 6 damaged, 5 sections full.
-pub fn push_reference(store: Assembler, bytes: &[u8], words: &mut [u32], r: AsmReference) -> Built
+pub fn push_reference(
+    store: Assembler,
+    bytes: &[u8],
+    words: &mut [u32],
+    r: AsmReference,
+) -> Result<Assembler, Refusal>
     ensures reply { built_reply result ≡ push_reply words_per_section (push_reference r)
         (store_of store bytes.now words.old) }
     ensures words { words.new ≡ (push_after words_per_section (push_reference r)
@@ -41,7 +44,12 @@ pub fn push_reference(store: Assembler, bytes: &[u8], words: &mut [u32], r: AsmR
 }
 
 // Adds an op byte. Refusals: 6 damaged, 4 bytes full, 5 sections full.
-pub fn push_op_byte(store: Assembler, bytes: &mut [u8], words: &mut [u32], byte: u8) -> Built
+pub fn push_op_byte(
+    store: Assembler,
+    bytes: &mut [u8],
+    words: &mut [u32],
+    byte: u8,
+) -> Result<Assembler, Refusal>
     ensures reply { built_reply result ≡ push_reply words_per_section (push_op_byte byte)
         (store_of store bytes.old words.old) }
     ensures bytes { bytes.new ≡ (push_after words_per_section (push_op_byte byte)
@@ -55,7 +63,12 @@ pub fn push_op_byte(store: Assembler, bytes: &mut [u8], words: &mut [u32], byte:
 // Adds a run of op bytes, all or nothing: as `push_op_byte` of each in turn, and the first refusal is the run's. Refusals: 6 damaged;
 // 4 bytes full, no room for one byte; 5 sections full; 4 bytes full, no room for all. An empty run is accepted with the counts as they
 // are, on any store.
-pub fn push_op_bytes(store: Assembler, bytes: &mut [u8], words: &mut [u32], run: &[u8]) -> Built
+pub fn push_op_bytes(
+    store: Assembler,
+    bytes: &mut [u8],
+    words: &mut [u32],
+    run: &[u8],
+) -> Result<Assembler, Refusal>
     ensures reply { built_reply result ≡ call_reply words_per_section (push_op_bytes run.now)
         (store_of store bytes.old words.old) }
     ensures bytes { bytes.new ≡ (call_after words_per_section (push_op_bytes run.now)
@@ -65,13 +78,18 @@ pub fn push_op_bytes(store: Assembler, bytes: &mut [u8], words: &mut [u32], run:
 {
     // Not by number: counts of 2^24 sections and more would be read as a refusal.
     if run.len() == 0 {
-        return Built::Stored(store);
+        return Ok(store);
     }
     built_of(building::push_op_bytes(state_of(store), bytes, words, run))
 }
 
 // Adds SWAP1 to SWAP16. Refusals: 1 bad depth (0 or above 16), 6 damaged, 4 bytes full, 5 sections full.
-pub fn push_swap(store: Assembler, bytes: &mut [u8], words: &mut [u32], depth: u8) -> Built
+pub fn push_swap(
+    store: Assembler,
+    bytes: &mut [u8],
+    words: &mut [u32],
+    depth: u8,
+) -> Result<Assembler, Refusal>
     ensures reply { built_reply result ≡ push_reply words_per_section (push_swap depth)
         (store_of store bytes.old words.old) }
     ensures bytes { bytes.new ≡ (push_after words_per_section (push_swap depth)
@@ -83,7 +101,12 @@ pub fn push_swap(store: Assembler, bytes: &mut [u8], words: &mut [u32], depth: u
 }
 
 // Adds DUP1 to DUP16, for depth 0 to 15. Refusals: 1 bad depth (above 15), 6 damaged, 4 bytes full, 5 sections full.
-pub fn push_dup(store: Assembler, bytes: &mut [u8], words: &mut [u32], depth: u8) -> Built
+pub fn push_dup(
+    store: Assembler,
+    bytes: &mut [u8],
+    words: &mut [u32],
+    depth: u8,
+) -> Result<Assembler, Refusal>
     ensures reply { built_reply result ≡ push_reply words_per_section (push_dup depth)
         (store_of store bytes.old words.old) }
     ensures bytes { bytes.new ≡ (push_after words_per_section (push_dup depth)
@@ -96,7 +119,13 @@ pub fn push_dup(store: Assembler, bytes: &mut [u8], words: &mut [u32], depth: u8
 
 // Exchanges the items at depths n and m: one SWAP of the other where one is 0, else SWAP n, m, n.
 // Refusals: 1 bad depth (equal, or either above 16), 6 damaged, 4 bytes full, 5 sections full.
-pub fn push_exchange(store: Assembler, bytes: &mut [u8], words: &mut [u32], n: u8, m: u8) -> Built
+pub fn push_exchange(
+    store: Assembler,
+    bytes: &mut [u8],
+    words: &mut [u32],
+    n: u8,
+    m: u8,
+) -> Result<Assembler, Refusal>
     ensures reply { built_reply result ≡ push_reply words_per_section (push_exchange n m)
         (store_of store bytes.old words.old) }
     ensures bytes { bytes.new ≡ (push_after words_per_section (push_exchange n m)
@@ -113,7 +142,7 @@ pub fn push_minimal_u256(
     bytes: &mut [u8],
     words: &mut [u32],
     word: &[u8],
-) -> Built
+) -> Result<Assembler, Refusal>
     ensures reply { built_reply result ≡ push_reply words_per_section (push_minimal_u256 word.now)
         (store_of store bytes.old words.old) }
     ensures bytes { bytes.new ≡ (push_after words_per_section (push_minimal_u256 word.now)
@@ -125,7 +154,12 @@ pub fn push_minimal_u256(
 }
 
 // Pushes a number. Refusals: 6 damaged, 4 bytes full, 5 sections full.
-pub fn push_minimal_u64(store: Assembler, bytes: &mut [u8], words: &mut [u32], value: u64) -> Built
+pub fn push_minimal_u64(
+    store: Assembler,
+    bytes: &mut [u8],
+    words: &mut [u32],
+    value: u64,
+) -> Result<Assembler, Refusal>
     ensures reply { built_reply result ≡ push_reply words_per_section (push_minimal_u64 value)
         (store_of store bytes.old words.old) }
     ensures bytes { bytes.new ≡ (push_after words_per_section (push_minimal_u64 value)
@@ -137,7 +171,12 @@ pub fn push_minimal_u64(store: Assembler, bytes: &mut [u8], words: &mut [u32], v
 }
 
 // Pushes a number. Refusals: 6 damaged, 4 bytes full, 5 sections full.
-pub fn push_minimal_u32(store: Assembler, bytes: &mut [u8], words: &mut [u32], value: u32) -> Built
+pub fn push_minimal_u32(
+    store: Assembler,
+    bytes: &mut [u8],
+    words: &mut [u32],
+    value: u32,
+) -> Result<Assembler, Refusal>
     ensures reply { built_reply result ≡ push_reply words_per_section (push_minimal_u32 value)
         (store_of store bytes.old words.old) }
     ensures bytes { bytes.new ≡ (push_after words_per_section (push_minimal_u32 value)
@@ -150,7 +189,12 @@ pub fn push_minimal_u32(store: Assembler, bytes: &mut [u8], words: &mut [u32], v
 
 // Adds data; empty data adds an empty Data section unless the last section is Data.
 // Refusals: 6 damaged, 4 bytes full, 5 sections full.
-pub fn push_data(store: Assembler, bytes: &mut [u8], words: &mut [u32], data: &[u8]) -> Built
+pub fn push_data(
+    store: Assembler,
+    bytes: &mut [u8],
+    words: &mut [u32],
+    data: &[u8],
+) -> Result<Assembler, Refusal>
     ensures reply { built_reply result ≡ push_reply words_per_section (push_data «data».now)
         (store_of store bytes.old words.old) }
     ensures bytes { bytes.new ≡ (push_after words_per_section (push_data «data».now)
@@ -162,17 +206,17 @@ pub fn push_data(store: Assembler, bytes: &mut [u8], words: &mut [u32], data: &[
 }
 
 // What the number of a building call stands for.
-fn built_of(answer: u64) -> Built
+fn built_of(answer: u64) -> Result<Assembler, Refusal>
     ensures { built_reply result ≡ built_of answer }
 {
     match answer / NUMBER {
-        0 => Built::Stored(counts_in(answer)),
-        1 => Built::Refused(Refusal::BadDepth),
-        2 => Built::Refused(Refusal::BadWord),
-        3 => Built::Refused(Refusal::LargeMark),
-        4 => Built::Refused(Refusal::BytesFull),
-        5 => Built::Refused(Refusal::SectionsFull),
-        _ => Built::Refused(Refusal::Damaged {
+        0 => Ok(counts_in(answer)),
+        1 => Err(Refusal::BadDepth),
+        2 => Err(Refusal::BadWord),
+        3 => Err(Refusal::LargeMark),
+        4 => Err(Refusal::BytesFull),
+        5 => Err(Refusal::SectionsFull),
+        _ => Err(Refusal::Damaged {
             section: (answer % SECTION) as u32,
         }),
     }

@@ -11,7 +11,7 @@ use Rattle.records.specs.Record.{stored_section}
 use Rattle.slices.specs.Over.{over}
 use Rattle.slices.proofs.Over.{has_room}
 use Rattle.records.specs.declared.Assembler.{Assembler}
-use Rattle.records.specs.Damage.{Sound}
+use Rattle.records.specs.Damage.{Sound, soundness_of}
 use Rattle.records.specs.Store.{Store, store_of, words_per_section, max_bytes, record_words}
 use Rattle.records.specs.Sections.{Section}
 use Rattle.records.specs.Damage.{last_soundness}
@@ -19,7 +19,7 @@ use Rattle.records.proofs.Damages.{good_words}
 use Rattle.records.proofs.Writing.{record_room}
 use Rattle.calls.specs.Calls.{joins, bytes_pass, no_section_left}
 use Rattle.calls.proofs.Rooms.{sound_counts, left_fits}
-use Rattle.numbers.specs.Numbers.{store_in}
+use Rattle.numbers.specs.Numbers.{store_in, refusal_number}
 use Rattle.numbers.proofs.Adds.{Adds, add_damaged, add_bytes_full, add-sections-full}
 use Rattle.adding.specs.Adding.{last_kind_is, bytes_section}
 use Rattle.adding.proofs.Parts.{kind_some}
@@ -51,7 +51,7 @@ abbrev counted : goal.In_default → goal.After-counts_in-store
 counted c = (goal.at.In_default c).After-counts_in-store
 
 sound : (c : goal.In_default) → last_soundness words_per_section (store_at (counted c)) ≡ Sound
-sound c = sym c.check_last.ensures ∙ c.in_default.is
+sound c = sym c.check_last.ensures ∙ ap soundness_of c.in_default.is
 
 words_fit_lem : (c : goal.In_default) → words_per_section * (store_at (counted c)).sections ≤ length (store_at (counted c)).words
 words_fit_lem c = good_words words_per_section (store_at (counted c)) (sound_counts words_per_section (store_at (counted c)) (sound c))
@@ -83,7 +83,7 @@ joining c =
     let at-counts = counts (fitting c) in
     let a = (entry at-counts).args in
     c.last_kind_is.ensures
-    ∙ ap (last_kind_is words_per_section (store_at at-counts).sections a.words.now) c.kind_number-number.ensures
+    ∙ ap (last_kind_is words_per_section (store_at at-counts).sections a.words.now) c.from-number.ensures
     ∙ joins_is words_per_section a.kind a.added.now (store_at at-counts)
 
 -- a section is left
@@ -94,16 +94,16 @@ left : (c : goal.Else-no_section_left)
     → no_section_left words_per_section (store_at (counts (fitting (asked c)))).sections (store_at (counts (fitting (asked c)))).words ≡ false
 left c = sym c.no_section_left.ensures ∙ c.if-no_section_left.false
 
-pub returns-in-Damaged : goal.returns-in-Damaged
-returns-in-Damaged c =
+pub returns-in-Err : goal.returns-in-Err
+returns-in-Err c =
     let at-section = c in
     let checked = at-section in
-    let at-counts = (goal.at.returns-in-Damaged checked).After-counts_in-store in
+    let at-counts = (goal.at.returns-in-Err checked).After-counts_in-store in
     let all =
     add_damaged words_per_section (section-of (entry at-counts)) (store_at at-counts) _
-    (sym checked.check_last.ensures ∙ at-section.in-Damaged.is)
+    (sym checked.check_last.ensures ∙ ap soundness_of at-section.in-Err.is)
     in
-    let all = by_state at-counts _ _ _ (c.refusal_number.ensures ∙ all.0, all.1) in
+    let all = by_state at-counts _ _ _ ((c.refusal_number.ensures ∙ ap refusal_number c.into.ensures) ∙ all.0, all.1) in
     record { reply = all.0; bytes = all.1.0; words = all.1.1 }
 
 pub returns-then-bytes_pass : goal.returns-then-bytes_pass
@@ -188,7 +188,7 @@ returns c =
     (λ (k : ℕ).
     over st.words (words_per_section * st.sections)
     (record_words words_per_section (stored_section k st.stored_bytes (st.stored_bytes + length a.added.now))))
-    found.kind_number-number.ensures
+    found.from-number.ensures
     in
     let all = by_state at-counts _ _ _
     (c.state_of-2.ensures ∙ all.0, (wrote.write_bytes-2.ensures ∙ whole ∙ all.1.0, appended.write_words.ensures ∙ recorded ∙ named ∙ all.1.1)) in

@@ -6,7 +6,7 @@ use mathlib.Core.Bool.{false}
 use mathlib.Core.List.{List}
 use lib.ListN.{length}
 use Rattle.records.specs.declared.Assembler.{Assembler}
-use Rattle.records.specs.Damage.{Sound}
+use Rattle.records.specs.Damage.{Sound, soundness_of}
 use Rattle.records.specs.Store.{Store, store_of, words_per_section}
 use Rattle.records.specs.Damage.{last_soundness}
 use Rattle.records.specs.Sections.{ops}
@@ -14,7 +14,7 @@ use Rattle.records.proofs.Damages.{good_words}
 use Rattle.calls.specs.Calls.{section_passes}
 use Rattle.calls.specs.AtOnce.{no_byte_left}
 use Rattle.calls.proofs.Rooms.{sound_counts}
-use Rattle.numbers.specs.Numbers.{store_in}
+use Rattle.numbers.specs.Numbers.{store_in, refusal_number}
 use Rattle.numbers.proofs.Adds.{Adds, AtOnce, once_damaged, once_byte_full, once_sections_full, once-adds}
 use Rattle.adding.proofs.Bytes.{section_is}
 use Rattle.adding.proofs.add_run.Goals as goal
@@ -48,7 +48,7 @@ abbrev counted : goal.In_default → goal.After-counts_in-store
 counted c = (goal.at.In_default c).After-counts_in-store
 
 sound : (c : goal.In_default) → last_soundness words_per_section (store_at (counted c)) ≡ Sound
-sound c = sym c.check_last.ensures ∙ c.in_default.is
+sound c = sym c.check_last.ensures ∙ ap soundness_of c.in_default.is
 
 words_fit_lem : (c : goal.In_default) → words_per_section * (store_at (counted c)).sections ≤ length (store_at (counted c)).words
 words_fit_lem c = good_words words_per_section (store_at (counted c)) (sound_counts words_per_section (store_at (counted c)) (sound c))
@@ -69,13 +69,13 @@ passes c =
     let at-counts = counted (tested (fitting c)) in
     c.ops_section_passes.ensures ∙ section_is words_per_section (run_of at-counts) (store_at at-counts)
 
-pub returns-in-Damaged : goal.returns-in-Damaged
-returns-in-Damaged c =
+pub returns-in-Err : goal.returns-in-Err
+returns-in-Err c =
     let at-section = c in
     let checked = at-section in
-    let at-counts = (goal.at.returns-in-Damaged checked).After-counts_in-store in
-    let all = once_damaged words_per_section (run_of at-counts) (store_at at-counts) _ (sym checked.check_last.ensures ∙ at-section.in-Damaged.is) in
-    let all = at-state at-counts (c.refusal_number.ensures ∙ all.0, all.1) in
+    let at-counts = (goal.at.returns-in-Err checked).After-counts_in-store in
+    let all = once_damaged words_per_section (run_of at-counts) (store_at at-counts) _ (sym checked.check_last.ensures ∙ ap soundness_of at-section.in-Err.is) in
+    let all = at-state at-counts ((c.refusal_number.ensures ∙ ap refusal_number c.into.ensures) ∙ all.0, all.1) in
     record { reply = all.0; bytes = all.1.0; words = all.1.1 }
 
 pub returns-then-bytes_pass : goal.returns-then-bytes_pass

@@ -9,14 +9,14 @@ use Rattle.records.specs.Record.{stored_section}
 use Rattle.records.proofs.Writing.{record_room}
 use Rattle.records.specs.declared.Assembler.{Assembler}
 use Rattle.records.specs.declared.record.StoredSection.{StoredSection}
-use Rattle.records.specs.Damage.{Sound}
+use Rattle.records.specs.Damage.{Sound, soundness_of}
 use Rattle.records.specs.Store.{Store, store_of, words_per_section}
 use Rattle.records.specs.Damage.{last_soundness}
 use Rattle.calls.specs.Calls.{BuiltReply, no_section_left}
 use Rattle.calls.specs.Alone.{words_reply, words_after}
 use Rattle.calls.proofs.Rooms.{left_fits}
 use Rattle.calls.proofs.Alone.{AddsWords, words_damaged, words_full, words_appended}
-use Rattle.numbers.specs.Numbers.{store_in, built_number}
+use Rattle.numbers.specs.Numbers.{store_in, built_number, refusal_number}
 use Rattle.adding.proofs.add_section.Goals as goal
 use Rattle.adding.proofs.add_section.Goals.{After-counts_in-store, Else-no_section_left, In_default, Start}
 
@@ -48,7 +48,7 @@ abbrev counted : goal.In_default → goal.After-counts_in-store
 counted c = (goal.at.In_default c).After-counts_in-store
 
 sound : (c : goal.In_default) → last_soundness words_per_section (store_at (counted c)) ≡ Sound
-sound c = sym c.check_last.ensures ∙ c.in_default.is
+sound c = sym c.check_last.ensures ∙ ap soundness_of c.in_default.is
 
 -- a section is left
 abbrev tested : goal.Else-no_section_left → goal.In_default
@@ -60,16 +60,16 @@ counts c = counted (tested c)
 left : (c : goal.Else-no_section_left) → no_section_left words_per_section (store_at (counts c)).sections (store_at (counts c)).words ≡ false
 left c = sym c.no_section_left.ensures ∙ c.if-no_section_left.false
 
-pub returns-in-Damaged : goal.returns-in-Damaged
-returns-in-Damaged c =
+pub returns-in-Err : goal.returns-in-Err
+returns-in-Err c =
     let at-section = c in
     let checked = at-section in
-    let at-counts = (goal.at.returns-in-Damaged checked).After-counts_in-store in
+    let at-counts = (goal.at.returns-in-Err checked).After-counts_in-store in
     let all =
     words_damaged words_per_section (words_of (entry at-counts)) (store_at at-counts) _
-    (sym checked.check_last.ensures ∙ at-section.in-Damaged.is)
+    (sym checked.check_last.ensures ∙ ap soundness_of at-section.in-Err.is)
     in
-    let all = by_state at-counts _ _ _ c.refusal_number.ensures all in
+    let all = by_state at-counts _ _ _ (c.refusal_number.ensures ∙ ap refusal_number c.into.ensures) all in
     record { reply = all.0; words = all.1 }
 
 pub returns-then-no_section_left : goal.returns-then-no_section_left

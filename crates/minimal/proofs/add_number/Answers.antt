@@ -1,7 +1,7 @@
 -- What adding the push of the number's eight bytes gives.
 -- Assumes nothing.
 use native.Mathlib.Omega.{arith}
-use Prim.Native.Nat.{ℕ, ◌<◌, ◌^◌}
+use Prim.Native.Nat.{ℕ}
 use mathlib.Core.Path.{ap, ◌∙◌}
 use Rattle.units.specs.Numbers.{number}
 use Rattle.units.proofs.BigEndian.{number_big_endian}
@@ -10,17 +10,14 @@ use Rattle.records.specs.Sections.{ops}
 use Rattle.calls.specs.Calls.{minimal_push}
 use Rattle.numbers.specs.Numbers.{store_in}
 use Rattle.numbers.proofs.Adds.{add_same}
+use Rattle.minimal.proofs.Digits.{eight_bytes}
 use Rattle.minimal.proofs.add_number.Goals as goal
 
 pub returns : goal.returns
 returns c =
-    let added = c in
-    let scanned = added in
-    let eight = scanned in
-    let a = eight.args in
+    let a = c.args in
     let v = a.value in
-    let fits : v < 2 ^ 64 = omega arith in
-    let same = ap number eight.eight_bytes-digits.ensures ∙ number_big_endian 8 v fits in
+    let same = ap number (c.to_be_bytes-digits.ensures ∙ eight_bytes v) ∙ number_big_endian 8 v (omega arith) in
     let all = add_same words_per_section _ (ops (minimal_push v)) (store_in a.state a.bytes.now a.words.now) _ _ _
-    (ap (λ (n : ℕ). ops (minimal_push n)) same) (added.add_scanned.ensures.reply, (added.add_scanned.ensures.bytes, added.add_scanned.ensures.words)) in
+    (ap (λ (n : ℕ). ops (minimal_push n)) same) (c.add_scanned.ensures.reply, (c.add_scanned.ensures.bytes, c.add_scanned.ensures.words)) in
     record { reply = all.0; bytes = all.1.0; words = all.1.1 }
