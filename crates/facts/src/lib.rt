@@ -58,7 +58,9 @@ pub fn size_for(form: u32, value: u32) -> u64
     let Some(form) = form_of(form) else {
         return NAMES_NOTHING;
     };
-    any_mark(form).size_for(value).map_or(too_narrow(), u64::from)
+    any_mark(form)
+        .size_for(value)
+        .map_or(too_narrow(), u64::from)
 }
 
 // `AsmReference::least_size`: low = bytes; 255 if the form names nothing.
