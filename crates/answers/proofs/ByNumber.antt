@@ -74,16 +74,16 @@ module _ (bytes words table : List ℕ) where
   settled_packs counts reply made = subst AssembledPacks (sym made) (settling_packs words_per_section (store_of counts bytes words) (length table))
 
   pub settled_all : (state : ℕ) (counts : Assembler) → counts ≡ counts_in state → (reply : Reply Laid) (table' : List ℕ)
-      → Settles counts reply table' → (answer : Reply Laid) → answer ≡ reply → {r : ℕ} → r ≡ assembled_number answer
+      → Settles counts reply table' → {r : ℕ} → r ≡ assembled_number reply
       → (r ≡ assembled_number (settled_by (counts_in state)).reply)
       × ((table' ≡ (settled_by (counts_in state)).table)
       × (SettlesDemand3 words_per_section (store_in state bytes words) (length table) (settled_by (counts_in state)).reply table'
       × (SettlesWithin words_per_section (store_in state bytes words) (length table) (settled_by (counts_in state)).reply
       × SettlesLeast words_per_section (store_in state bytes words) (settled_by (counts_in state)).reply table')))
-  settled_all state counts is reply table' made answer same e =
+  settled_all state counts is reply table' made e =
       let all = subst (λ (c : Assembler). Settles c reply table') is made in
       let named = subst (λ (x : Reply Laid). Settles (counts_in state) x table') all.0 all in
-      (e ∙ ap assembled_number (same ∙ all.0), named.1)
+      (e ∙ ap assembled_number all.0, named.1)
 
 -- ---- the write
 

@@ -16,10 +16,8 @@ ghost use Rattle.listing.specs.Answer.{listed_reply, listing_reply, listing_buff
 ghost use Rattle.numbers.specs.Numbers.{store_in};
 ghost use Rattle.answers.specs.Numbers.{assembled_number, listed_number, AssembledPacks, ListedPacks};
 
-use assembler::Assembled;
-use listing::Listed;
 use numbers::{SECTION, counts_in, refusal_number};
-use settling::Settled;
+use units::{LaidOut, Refusal};
 
 // Writes the code into the result from the position on, and the marks' offsets into the table. Refusals: 6, 7, 8 (or 17, 18), 9 to
 // 13, with the table all 0 and the result unchanged.
@@ -76,7 +74,7 @@ pub fn settle(state: u64, bytes: &[u8], words: &[u32], table: &mut [u32]) -> u64
         (settling words_per_section (length table.old) (store_in state bytes.now words.now)).reply
         table.new }
 {
-    assembled_number(as_assembled(settling::settle(counts_in(state), bytes, words, table)))
+    assembled_number(settling::settle(counts_in(state), bytes, words, table))
 }
 
 // Writes the code into the result from the position on, by a table from anyone, which is only read. Refusals: 6, 7,
@@ -126,34 +124,24 @@ pub fn write_asm(state: u64, bytes: &[u8], words: &[u32], text: &mut [u8]) -> u6
     listed_number(listing::write_asm(counts_in(state), bytes, words, text))
 }
 
-// What settling answered, as assembly answers it.
-fn as_assembled(settled: Settled) -> Assembled
-    ensures { assembled_reply result ≡ settled_reply settled }
-{
-    match settled {
-        Settled::LaidOut { length, passes } => Assembled::Written { length, passes },
-        Settled::Refused(refusal) => Assembled::Refused(refusal),
-    }
-}
-
 // The answer to settling, to a write or to assembly as a number.
-fn assembled_number(assembled: Assembled) -> u64
+fn assembled_number(assembled: Result<LaidOut, Refusal>) -> u64
     requires { AssembledPacks (assembled_reply assembled) }
     ensures { result ≡ assembled_number (assembled_reply assembled) }
 {
     match assembled {
-        Assembled::Written { length, passes } => (passes as u64) * SECTION + (length as u64),
-        Assembled::Refused(refusal) => refusal_number(refusal),
+        Ok(laid) => (laid.passes as u64) * SECTION + (laid.length as u64),
+        Err(refusal) => refusal_number(refusal),
     }
 }
 
 // The answer to a listing as a number.
-fn listed_number(listed: Listed) -> u64
+fn listed_number(listed: Result<usize, Refusal>) -> u64
     requires { ListedPacks (listed_reply listed) }
     ensures { result ≡ listed_number (listed_reply listed) }
 {
     match listed {
-        Listed::Text(length) => length as u64,
-        Listed::Refused(refusal) => refusal_number(refusal),
+        Ok(length) => length as u64,
+        Err(refusal) => refusal_number(refusal),
     }
 }

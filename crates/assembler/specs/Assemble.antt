@@ -1,26 +1,25 @@
 -- Document 01, modules 3 and 4 and 'Replies': assembly as one definition, from a store, a lent table's length, a lent result and a
 -- position to the answer, the table and the result. Refusals 6 to 13 in order, 17 and 18 in 8's place. Assumes nothing.
-use Rattle.std.specs.Prelude.{ℕ, ◌-◌, Bool, cond, ◌||◌, List, ltb, length, replicate, Result, Ok, Err}
+use Rattle.std.specs.Prelude.{ℕ, ◌-◌, Bool, cond, ◌||◌, List, ltb, length, replicate, Result}
 use Rattle.units.specs.Replies.{result_full}
 use Rattle.units.specs.declared.reply.LaidOut.{LaidOut}
 use Rattle.units.specs.declared.reply.Refusal.{Refusal}
-use Rattle.units.specs.Reply.{Reply, accepted, refused, refusal_reply}
+use Rattle.units.specs.Reply.{Reply, accepted, refused}
 use Rattle.records.specs.Store.{Store}
 use Rattle.records.specs.Sections.{Section, decode}
 use Rattle.slices.specs.Over.{over}
 use Rattle.layout.specs.Passes.{entry}
 use Rattle.layout.specs.Answer.{Laid}
-use Rattle.settling.specs.Settle.{settling}
+use Rattle.settling.specs.Settle.{settling, settled_reply}
 use Rattle.assembler.specs.Emission.{code_of}
 
 -- code is written: 'The answer is length and passes.'
 abbrev pub written : ℕ → ℕ → Reply Laid
 written size passes = accepted (record { length = size; passes = passes })
 
--- the code's answer as a reply
+-- the code's answer as a reply, as settling's
 abbrev pub assembled_reply : Result LaidOut Refusal → Reply Laid
-assembled_reply (Ok laid) = written laid.length laid.passes
-assembled_reply (Err r) = refusal_reply r
+assembled_reply answer = settled_reply answer
 
 -- the answer, and the table and the result afterwards
 pub record Outcome : Type 0 where

@@ -36,10 +36,6 @@ sets_place y t at count short = go (ltb (at + count) (2 ^ 64)) refl
         let l = ltb-false (at + count) (2 ^ 64) e in
         sets_out y t (place_after at count) (omega arith) ∙ sym (sets_out y t (at + count) (omega arith))
 
--- nothing put
-pub put_none : (t : List ℕ) (at : ℕ) → at < 2 ^ 64 → Put t at [] at t
-put_none t at h = record { count = omega arith; text = refl }
-
 -- the slice keeps its length
 pub put_length : {t m : List ℕ} {at r : ℕ} {x : List ℕ} → Put t at x r m → length m ≡ length t
 put_length {t} {m} {at} {r} {x} p = ap length p.text ∙ length-sets t at x

@@ -1,5 +1,5 @@
--- What the functions that put text promise. A slice takes what fits into it: bytes past its end are counted and not stored, so that the
--- same walk counts, on an empty slice, and writes. Assumes nothing.
+-- Text put into a slice from a place on, which takes what fits into it; and the instructions of a run of code, as the functions of ops.rt
+-- and the laws of their walk have them. Assumes nothing.
 use Rattle.std.specs.Prelude.{ℕ, ◌+◌, ◌-◌, ◌^◌, min, ◌≡◌, List, length, get_or, take, drop}
 use Rattle.std.proofs.lemmas.List.Edits.{sets}
 use Rattle.std.proofs.Math.Seq.{slice}
@@ -16,7 +16,7 @@ pub record Put (before : List ℕ) (at : ℕ) (added : List ℕ) (next : ℕ) (a
   pub count : next ≡ place_after at (length added)
   pub text : after ≡ sets before at added
 
--- ---- for the private functions of ops.rt
+-- ---- instructions
 
 -- the first instruction of a run of code
 abbrev pub first_placed : List ℕ → Placed

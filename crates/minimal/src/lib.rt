@@ -172,10 +172,8 @@ pub fn leading_zeros(digits: &[u8]) -> Scan
     ensures looked { result.looked ≡ looked digits.now }
 {
     let passed = eights_passed(digits);
-    if passed + 8 == digits.len() {
-        if seven_zeros(digits, passed) {
-            return scan_from(digits, passed + 7);
-        }
+    if begins_with_seven(&digits[passed..]) {
+        return scan_from(digits, passed + 7);
     }
     scan_from(digits, passed)
 }
@@ -185,81 +183,47 @@ fn scan_from(digits: &[u8], passed: usize) -> Scan
     requires { (passed ≤ length digits.now) × ZerosFrom digits.now 0 passed }
     ensures { LeadingZeros digits.now result.zeros × (result.looked ≡ looked digits.now) }
 {
-    let mut i = passed;
     let mut looked = passed;
-    while i < digits.len() {
+    for i in passed..digits.len() {
         let byte = digits[i];
         looked += 1;
         if byte != 0 {
             return Scan { zeros: i, looked };
         }
-        i += 1;
     }
-    Scan { zeros: i, looked }
+    Scan { zeros: digits.len(), looked }
 }
 
 // The zeros passed over eight at a time, while more than eight bytes are left.
 fn eights_passed(digits: &[u8]) -> usize
     ensures { (result ≤ length digits.now) × ZerosFrom digits.now 0 result }
 {
-    let mut i = 0;
-    while i + 8 < digits.len() {
-        if !eight_zeros(digits, i) {
-            return i;
+    let Some((_last, front)) = digits.split_last() else {
+        return 0;
+    };
+    let (eights, _rest) = front.as_chunks::<8>();
+    for (i, eight) in eights.iter().enumerate() {
+        if u64::from_be_bytes(*eight) != 0 {
+            return 8 * i;
         }
-        i += 8;
     }
-    i
+    8 * eights.len()
 }
 
-// True only of seven zeros from a place on.
-fn seven_zeros(word: &[u8], at: usize) -> bool
-    requires { at + 7 ≤ length word.now }
-    ensures { result ≡ true → ZerosFrom word.now at 7 }
+// True only of eight bytes of which the first seven are zeros: four, two and one, a comparison each.
+fn begins_with_seven(digits: &[u8]) -> bool
+    ensures { result ≡ true → (length digits.now ≡ 8) × ZerosFrom digits.now 0 7 }
 {
-    if !four_zeros(word, at) {
+    let [a, b, c, d, e, f, g, _last] = digits else {
+        return false;
+    };
+    if u32::from_be_bytes([*a, *b, *c, *d]) != 0 {
         return false;
     }
-    let two = (word[at + 4] as u64) * 0x100 + (word[at + 5] as u64);
-    if two != 0 {
+    if u16::from_be_bytes([*e, *f]) != 0 {
         return false;
     }
-    word[at + 6] == 0
-}
-
-// True only of eight zeros from a place on: written so that it compiles to one comparison.
-fn eight_zeros(word: &[u8], at: usize) -> bool
-    requires { at + 8 ≤ length word.now }
-    ensures { result ≡ true → ZerosFrom word.now at 8 }
-{
-    let high = (word[at] as u64) * 0x100_0000_0000_0000
-        + (word[at + 1] as u64) * 0x1_0000_0000_0000
-        + (word[at + 2] as u64) * 0x100_0000_0000
-        + (word[at + 3] as u64) * 0x1_0000_0000;
-    let all = high
-        + (word[at + 4] as u64) * 0x100_0000
-        + (word[at + 5] as u64) * 0x1_0000
-        + (word[at + 6] as u64) * 0x100
-        + (word[at + 7] as u64);
-    if all != 0 {
-        return false;
-    }
-    true
-}
-
-// The same of four.
-fn four_zeros(word: &[u8], at: usize) -> bool
-    requires { at + 4 ≤ length word.now }
-    ensures { result ≡ true → ZerosFrom word.now at 4 }
-{
-    let all = (word[at] as u64) * 0x100_0000
-        + (word[at + 1] as u64) * 0x1_0000
-        + (word[at + 2] as u64) * 0x100
-        + (word[at + 3] as u64);
-    if all != 0 {
-        return false;
-    }
-    true
+    *g == 0
 }
 
 // A number after one byte more, with the opcode in the place before the bytes that it pushes.

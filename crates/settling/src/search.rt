@@ -65,6 +65,7 @@ fn all_placed(table: &[u32]) -> bool
 }
 
 // The first section with a property; the count of sections if there is none.
+// Kept: no Option, since the definitions of 7 to 9 and 12 that searches are equated with answer the count too (layout, Conditions).
 fn first_section<F: Fn(StoredSection) -> bool>(store: UndamagedStore, is_one: F) -> u32
     requires { (i : ℕ) → i < store.counts.sections → F.pre is_one (words_at words_per_section store.words.now i) }
     ensures within { result ≤ store.entry.counts.sections }

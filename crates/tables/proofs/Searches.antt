@@ -17,21 +17,21 @@ use Rattle.slices.proofs.Tests.{clash}
 use Rattle.records.specs.Record.{mark_kind, direct_kind}
 use Rattle.records.specs.Sections.{Section, mark}
 use Rattle.records.specs.Store.{words_per_section, words_at}
-use Rattle.records.specs.declared.Assembler.{Assembler}
+use Rattle.undamaged.specs.declared.store.UndamagedStore.{UndamagedStore}
 use Rattle.records.specs.declared.record.StoredSection.{StoredSection}
 use Rattle.layout.specs.Conditions.{section_at, Never, names_some, placed, short_at, unplaced_at, first_unplaced, has_bytes, apart_at}
 use Rattle.layout.specs.ConditionLaws.{HasBytes, BytesBetween}
 use Rattle.layout.proofs.Apart.{placed_law}
 use Rattle.layout.proofs.Least.{never_law}
 use Rattle.layout.proofs.ConditionLaws.{bytes_law, condition_laws}
-use Rattle.settling.specs.SectionWalk.{sections_of, Fitting, MarksIn}
+use Rattle.settling.specs.SectionWalk.{sections_in, MarksFit, MarksIn}
 use Rattle.settling.proofs.SectionWords.{Words, mark_words, ops_words, data_words, direct_words, delta_words, named_words}
-use Rattle.settling.proofs.Sections.{Turn, turn, turn_in}
+use Rattle.settling.proofs.Sections.{Turn, turn_at, marks_fit, sections_count}
 use Rattle.settling.proofs.FirstPlacings.{names_same, none_unplaced}
 use Rattle.tables.specs.MarkMap.{digit, in_map, Marked, Covers}
 use Rattle.tables.specs.TableWalk.{unplaced_by, bytes_words}
 use Rattle.tables.proofs.MarkMaps.{marked_start}
-use Rattle.tables.proofs.Turns.{count, turn_max, marks_covered}
+use Rattle.tables.proofs.Turns.{turn_max, marks_covered}
 
 -- ---- a section by its words
 
@@ -54,10 +54,10 @@ module _ {x : StoredSection} where
   bytes_words_lem (delta_words l s p g) = rw (ne_eqb x.kind mark_kind (λ e. omega arith), le-leb direct_kind x.kind (omega arith))
 
 -- where a table has an entry for each mark, a map that covers the table has room for the marks of each section
-pub turn_covered : (store : Assembler) (held words : List ℕ) (n room : ℕ) → Fitting store held words n → Covers n room
-    → (i : ℕ) (x : StoredSection) → i < store.sections → x ≡ words_at words_per_section words i → MarksIn (8 * room) x
-turn_covered store held words n room f covers i x l e =
-    marks_covered n room x covers (turn_in store held words n f i x (turn store held words f.whole i x l e)) (turn_max store held words f.whole i x l e)
+pub turn_covered : (store : UndamagedStore) (n room : ℕ) → MarksFit (sections_in store) n → Covers n room
+    → (i : ℕ) (x : StoredSection) → i < store.counts.sections → (i < store.counts.sections → x ≡ words_at words_per_section store.words.now i) → MarksIn (8 * room) x
+turn_covered store n room f covers i x l e =
+    marks_covered n room x covers (marks_fit n (sections_in store) i x f (turn_at store i x l e)) (turn_max store i x l e)
 
 -- ---- 8, 17 and 18
 
@@ -93,12 +93,12 @@ module _ (ss : List Section) (n : ℕ) (map : List ℕ) (h : Marked ss n map) (c
   all_in k in_table every = (never_law ss (unplaced_at ss)).0 (sym (none_unplaced k ss in_table (λ m l. sym (in_placed m (in_room map m (every m l))) ∙ every m l)))
 
 -- so of a section's words in an undamaged store, whose marks the table has entries for
-pub code_unplaced : (store : Assembler) (held words : List ℕ) (n room : ℕ) (map : List ℕ) → Fitting store held words n → Covers n room → length map ≡ room
-    → Marked (sections_of store held words) store.sections map → (i : ℕ) (x : StoredSection) → i < store.sections → x ≡ words_at words_per_section words i
-    → unplaced_by map x ≡ unplaced_at (sections_of store held words) i
-code_unplaced store held words n room map f covers long h i x l e =
-    unplaced_by_lem _ _ map h (count store held words) i x (turn store held words f.whole i x l e)
-    (subst (λ (k : ℕ). MarksIn (8 * k) x) (sym long) (turn_covered store held words n room f covers i x l e))
+pub code_unplaced : (store : UndamagedStore) (n room : ℕ) (map : List ℕ) → MarksFit (sections_in store) n → Covers n room → length map ≡ room
+    → Marked (sections_in store) store.counts.sections map → (i : ℕ) (x : StoredSection) → i < store.counts.sections
+    → (i < store.counts.sections → x ≡ words_at words_per_section store.words.now i) → unplaced_by map x ≡ unplaced_at (sections_in store) i
+code_unplaced store n room map f covers long h i x l e =
+    unplaced_by_lem _ _ map h (sections_count store) i x (turn_at store i x l e)
+    (subst (λ (k : ℕ). MarksIn (8 * k) x) (sym long) (turn_covered store n room f covers i x l e))
 
 -- ---- 9
 

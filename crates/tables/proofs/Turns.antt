@@ -1,46 +1,32 @@
 -- One turn of the walks over a store: where a section's marks are in the map, and what 7, 16 and 10 say of the section whose words were
 -- read. Assumes nothing.
-<<<<<<< HEAD
 use Prim.Native.Nat.{ℕ, ◌+◌, ◌*◌, ◌<◌}
-=======
-use Rattle.std.specs.Prelude.{None, Option, Some}
-use Prim.Native.Nat.{ℕ, ◌+◌, ◌*◌, ◌≤◌, ◌<◌}
->>>>>>> ea3065ee49c8fbf92c3af1a3b41954565875ad49
 use native.Mathlib.Omega.{arith}
 use mathlib.Core.Path.{◌≡◌, refl, sym, ◌∙◌, ap, subst}
 use mathlib.Core.Bool.{Bool, true, false, not, ◌||◌, true≢false}
 use mathlib.Core.List.{List}
-use mathlib.Core.Logic.{inl, inr}
 use lib.ListN.{length}
 use borrow.Author.Tests.{eq-eqb, ne_eqb}
-<<<<<<< HEAD
 use Rattle.std.proofs.Common.{Option, Some, None}
 use Rattle.slices.proofs.First.{NoneBefore, search_next}
-use Rattle.units.specs.declared.SizeFor.TheVariants.{Bytes, TooNarrow}
-=======
 use Rattle.records.specs.declared.record.AsmSection.{AsmSection}
->>>>>>> ea3065ee49c8fbf92c3af1a3b41954565875ad49
 use Rattle.units.proofs.Forms.{size_found, narrow_found}
 use Rattle.records.specs.Record.{read_section}
 use Rattle.records.specs.Damage.{unreadable}
 use Rattle.records.specs.Store.{store_of, words_per_section, words_at}
 use Rattle.records.specs.Sections.{Section, mark, ops, bytes, reference}
-use Rattle.records.specs.declared.Assembler.{Assembler}
+use Rattle.undamaged.specs.declared.store.UndamagedStore.{UndamagedStore}
 use Rattle.records.specs.declared.record.StoredSection.{StoredSection}
 use Rattle.undamaged.proofs.Soundness.{undamaged_iff}
 use Rattle.undamaged.proofs.Reading.{Reads, is_damaged_lem, is_mark, is_ops_lem, is_data, is_direct, is_delta_lem, reads}
 use Rattle.layout.specs.Passes.{entry, value_by, size_by, unlike}
 use Rattle.layout.specs.Conditions.{section_at, places_some, short_at, backward_at}
-use Rattle.settling.specs.SectionWalk.{sections_of, Whole, MarksIn}
+use Rattle.settling.specs.SectionWalk.{MarksIn}
 use Rattle.settling.proofs.SectionWords.{size_section, NotMark}
-use Rattle.settling.proofs.Sections.{decode_count, sum_next}
+use Rattle.settling.proofs.Sections.{sum_next}
 use Rattle.tables.specs.MarkMap.{Covers}
 use Rattle.tables.specs.TableTests.{sum_before, differs_at, narrow_by, too_narrow_at, wrong_at}
 use Rattle.tables.specs.TableWalk.{Found, earlier, stops_at}
-
--- as many sections as are counted
-pub count : (store : Assembler) (held words : List ℕ) → length (sections_of store held words) ≡ store.sections
-count store held words = decode_count words_per_section (store_of store held words)
 
 -- ---- marks
 
@@ -57,17 +43,15 @@ max_in x u = go (reads x) u
     go (is_delta_lem l m o s p g) n = record { placed = λ h. absurd (omega arith); first = λ _. omega arith; second = λ _. omega arith }
 
 -- so those of section i of an undamaged store
-pub turn_max : (store : Assembler) (held words : List ℕ) → Whole store held words → (i : ℕ) (x : StoredSection) → i < store.sections
-    → x ≡ words_at words_per_section words i → MarksIn 1048576 x
-turn_max store held words u i x l e =
-    subst (MarksIn 1048576) (sym e) (max_in _ (((undamaged_iff words_per_section (store_of store held words)).0 u).readable i l))
+pub turn_max : (store : UndamagedStore) (i : ℕ) (x : StoredSection) → i < store.counts.sections
+    → (i < store.counts.sections → x ≡ words_at words_per_section store.words.now i) → MarksIn 1048576 x
+turn_max store i x l e =
+    subst (MarksIn 1048576) (sym (e l)) (max_in _ (((undamaged_iff words_per_section (store_of store.counts store.bytes.now store.words.now)).0 store.undamaged).readable i l))
 
 -- the marks that a table of length n has entries for are in a map of so many bytes that covers them
 pub marks_covered : (n room : ℕ) (x : StoredSection) → Covers n room → MarksIn n x → MarksIn 1048576 x → MarksIn (8 * room) x
-marks_covered n room x (inl h) a b =
-    record { placed = λ e. omega (arith, a.placed e); first = λ e. omega (arith, a.first e); second = λ e. omega (arith, a.second e) }
-marks_covered n room x (inr h) a b =
-    record { placed = λ e. omega (arith, b.placed e); first = λ e. omega (arith, b.first e); second = λ e. omega (arith, b.second e) }
+marks_covered n room x h a b =
+    record { placed = λ e. omega (arith, a.placed e, b.placed e); first = λ e. omega (arith, a.first e, b.first e); second = λ e. omega (arith, a.second e, b.second e) }
 
 -- ---- the first of the numbers before i that a test holds of, if there is one
 

@@ -1,5 +1,5 @@
 -- Private to the tests, src/map.rt: a map of one bit for each mark. No public contract cites it. Assumes nothing.
-use Rattle.std.specs.Prelude.{ℕ, ◌*◌, ◌^◌, ◌/◌, ◌%◌, ◌≤◌, ◌<◌, ◌≡◌, Bool, true, ◌⊎◌, List, eqb, length, get_or, set, take}
+use Rattle.std.specs.Prelude.{ℕ, ◌*◌, ◌^◌, ◌/◌, ◌%◌, ◌≤◌, ◌<◌, ◌≡◌, Bool, true, min, ◌+◌, List, eqb, length, get_or, set, take}
 use Rattle.std.specs.Int.Bits.{bit_or}
 use Rattle.records.specs.Record.{max_mark}
 use Rattle.records.specs.Sections.{Section}
@@ -21,9 +21,9 @@ with_mark map m = set map (m / 8) (bit_or (get_or map (m / 8) 0) (2 ^ (m % 8)))
 abbrev pub Marked : List Section → ℕ → List ℕ → Type 0
 Marked ss i map = (m : ℕ) → m < 8 * length map → in_map map m ≡ placed (take i ss) m
 
--- a map of so many bytes has room for every mark below n, or for every mark number
+-- a map of so many bytes has room for every mark below n, those that are mark numbers
 abbrev pub Covers : ℕ → ℕ → Type 0
-Covers n bytes = (n ≤ 8 * bytes) ⊎ (max_mark < 8 * bytes)
+Covers n bytes = min n (max_mark + 1) ≤ 8 * bytes
 
 -- where it is answered so, every mark below a limit is in the map
 abbrev pub AllIn : List ℕ → ℕ → Bool → Type 0

@@ -1,14 +1,15 @@
 // The walk for 7, 16, 10 and 12 together, by the lent table; it puts the marks that are placed into the map.
 ghost use Rattle.std.specs.Prelude.{◌≡◌, length, replicate};
-ghost use Rattle.settling.specs.SectionWalk.{sections_of, Whole};
+ghost use Rattle.settling.specs.SectionWalk.{sections_in};
 ghost use Rattle.tables.specs.MarkMap.{Covers};
 ghost use Rattle.tables.specs.TableWalk.{ComparedTo, earlier};
 
 use crate::map::MarkMap;
-use crate::section::{entry_of, is_backward, section_words, size_of};
-use records::{Assembler, kind};
+use crate::section::{entry_of, is_backward, size_of};
+use records::kind;
 use settling::is_short;
-use units::{MarkId, SizeFor};
+use undamaged::UndamagedStore;
+use units::MarkId;
 
 // What the walk tells of a table that agrees with the sections: the sum of sizes, and the first backward delta.
 #[derive(Clone, Copy)]
@@ -19,22 +20,19 @@ pub(crate) struct Agreed {
 
 // The walk. Err: the first section that is a 7, a 16 or a 10, with the marks placed before it put into the map.
 pub(crate) fn compare<const BYTES: usize>(
-    store: Assembler,
-    bytes: &[u8],
-    words: &[u32],
+    store: UndamagedStore,
     table: &[u32],
     map: &mut MarkMap<BYTES>,
 ) -> Result<Agreed, u32>
-    requires whole { Whole store bytes.now words.now }
     requires covers { Covers (length table.now) BYTES }
     requires empty { map.old.bits ≡ replicate BYTES 0 }
-    ensures { ComparedTo table.now (sections_of store bytes.now words.now) map.new.bits result }
+    ensures { ComparedTo table.now (sections_in store.entry) map.new.bits result }
 {
     let limit = table.len();
     let mut sum: u32 = 0;
     let mut backward = None;
-    for i in 0..store.sections {
-        let section = section_words(words, i as usize);
+    for i in 0..store.counts.sections {
+        let section = store.section(i);
         if is_short(section, limit) {
             return Err(i);
         }
@@ -44,10 +42,10 @@ pub(crate) fn compare<const BYTES: usize>(
             }
             map.insert(MarkId(section.first));
         } else {
-            let SizeFor::Bytes(n) = size_of(section, table) else {
+            let Some(size) = size_of(section, table) else {
                 return Err(i);
             };
-            sum += n;
+            sum += size;
             backward = earlier(backward, i, is_backward(section, table));
         }
     }

@@ -1,27 +1,13 @@
 // One section as the walks read it, by its three words and the lent table. In an undamaged store a kind below Direct that isn't a mark is
 // Ops or Data, and one above it a delta. These are settling's, private there and here: made public they would test each index at every turn
 // (docs/DECISIONS.md, 49).
-ghost use Rattle.std.specs.Prelude.{◌≡◌, ◌+◌, ◌-◌, ◌*◌, ◌≤◌, ◌<◌, length};
+ghost use Rattle.std.specs.Prelude.{◌≡◌, ◌-◌, ◌≤◌, ◌<◌, length};
 ghost use Rattle.records.specs.Record.{direct_kind};
-ghost use Rattle.records.specs.Store.{words_per_section, words_at};
 ghost use Rattle.layout.specs.Passes.{entry};
 ghost use Rattle.settling.specs.SectionWalk.{MarksIn, value_words, size_words, backward_words};
 
-use records::{Assembler, StoredSection, form_of, kind};
-use units::{AsmBytesIdx, MarkId, SizeFor, form};
-
-// The three words of section i.
-pub(crate) fn section_words(words: &[u32], i: usize) -> StoredSection
-    requires { words_per_section * (i + 1) ≤ length words.now }
-    ensures { result ≡ words_at words_per_section words.now i }
-{
-    let at = Assembler::WORDS * i;
-    StoredSection {
-        kind: words[at],
-        first: words[at + 1],
-        second: words[at + 2],
-    }
-}
+use records::{StoredSection, form_of, kind};
+use units::{AsmBytesIdx, MarkId, form};
 
 // A mark's entry of the table.
 pub(crate) fn entry_of(table: &[u32], mark: MarkId) -> u32
@@ -52,21 +38,17 @@ fn value_of(section: StoredSection, table: &[u32]) -> u32
     if section.kind == kind::DIRECT {
         return start;
     }
-    let end = entry_of(table, MarkId(section.second));
-    if end < start {
-        return 0;
-    }
-    end - start
+    entry_of(table, MarkId(section.second)).saturating_sub(start)
 }
 
-// The size of a section that isn't a mark, by the table; or too narrow.
+// The size of a section that isn't a mark, by the table; none if it is too narrow.
 #[tactic(auto, using(std::proofs::lemmas::Bool::Decides::nat_tests), unfolding(settling::specs::SectionWalk::size_words))]
-pub(crate) fn size_of(section: StoredSection, table: &[u32]) -> SizeFor
+pub(crate) fn size_of(section: StoredSection, table: &[u32]) -> Option<u32>
     requires { MarksIn (length table.now) section × (section.kind < direct_kind → section.first ≤ section.second) }
     ensures { result ≡ size_words table.now section }
 {
     if section.kind < kind::DIRECT {
-        return SizeFor::Bytes(span_length(section));
+        return Some(span_length(section));
     }
     form::size_for(form_of(section), value_of(section, table))
 }

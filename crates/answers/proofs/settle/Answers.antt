@@ -1,6 +1,5 @@
 -- What `settling::settle` answers, as a number, and its clauses of the defined reply.
 -- Assumes nothing.
-use mathlib.Core.Path.{◌∙◌}
 use Rattle.answers.proofs.ByNumber.{settled_packs, settled_all}
 use Rattle.answers.proofs.settle.Goals as goal
 use Rattle.answers.proofs.settle.Goals.{After-counts_in, After-settle, Start}
@@ -16,13 +15,12 @@ pub assembled_number-requires : goal.assembled_number-requires
 assembled_number-requires c =
     let called = (goal.at.assembled_number-requires c).After-settle in
     let a = (entry called).args in
-    settled_packs a.bytes.now a.words.now a.table.now _ _ (c.as_assembled.ensures ∙ called.settle.ensures.reply)
+    settled_packs a.bytes.now a.words.now a.table.now _ _ called.settle.ensures.reply
 
 pub returns : goal.returns
 returns c =
-    let told = c in
-    let called = (goal.at.returns told).After-settle in
+    let called = (goal.at.returns c).After-settle in
     let a = (entry called).args in
     let all = settled_all a.bytes.now a.words.now a.table.now a.state _ (counted called).counts_in.ensures _ _
-    (called.settle.ensures.reply, (called.settle.ensures.table, (called.settle.ensures.shortest, (called.settle.ensures.within, called.settle.ensures.least)))) _ told.as_assembled.ensures c.assembled_number.ensures in
+    (called.settle.ensures.reply, (called.settle.ensures.table, (called.settle.ensures.shortest, (called.settle.ensures.within, called.settle.ensures.least)))) c.assembled_number.ensures in
     record { reply = all.0; table = all.1.0; shortest = all.1.1.0; within = all.1.1.1.0; least = all.1.1.1.1 }

@@ -1,34 +1,20 @@
--- The invariant: every byte before i is 0. The measure is what is left.
+-- A group more.
 -- Assumes nothing.
 use native.Mathlib.Omega.{arith}
-use Rattle.minimal.proofs.Groups.{none, join}
+use Prim.Native.Nat.{ℕ, ◌/◌, ◌<◌}
+use mathlib.Core.Path.{◌≡◌, sym, ap, ◌∙◌}
+use mathlib.Core.List.{List, []}
+use lib.ListN.{length, get_or}
+use Rattle.std.specs.Int.{w64, from_be_bytes}
+use Rattle.minimal.proofs.Groups.{chunk_passed}
 use Rattle.minimal.proofs.eights_passed.Goals as goal
-
-pub loop-i-init : goal.loop-i-init
-loop-i-init c = (omega arith, none c.args.digits.now 0)
-
-pub overflow_add-i : goal.overflow_add-i
-overflow_add-i c = omega arith
-
-pub eight_zeros-requires : goal.eight_zeros-requires
-eight_zeros-requires c = omega arith
-
-pub returns-then-not-eight_zeros : goal.returns-then-not-eight_zeros
-returns-then-not-eight_zeros c = c.loop-i.invariant
-
-pub overflow_add-i-in-loop-i : goal.overflow_add-i-in-loop-i
-overflow_add-i-in-loop-i c = omega arith
-
-pub loop-i-smaller : goal.loop-i-smaller
-loop-i-smaller c = omega arith
 
 pub loop-i-preserved : goal.loop-i-preserved
 loop-i-preserved c =
-    let tested = c in
-    let turn = tested in
-    let digits = turn.args.digits.now in
-    let next = join digits 0 turn.loop-i.i turn.loop-i.i 8 (omega arith) turn.loop-i.invariant.1 (tested.eight_zeros.ensures c.if-not-eight_zeros.false) in
-    (omega arith, λ k l h. next k l (omega (arith, h)))
-
-pub returns : goal.returns
-returns c = c.loop-i.invariant
+    let i = c.loop-i.i in
+    let front = c.in-Some.front.now in
+    let within : i < length front / 8 = omega (arith, c.as_chunks.ensures.front_len) in
+    let none : from_be_bytes w64 (get_or c.as_chunks.result.0.now i []) ≡ 0 = sym c.from_be_bytes.ensures ∙ c.if-from_be_bytes-ne0.false in
+    let none = ap (λ (xs : List (List ℕ)). from_be_bytes w64 (get_or xs i [])) (sym c.as_chunks.ensures.front) ∙ none in
+    let more = chunk_passed c.args.digits.now front c.in-Some._last.now i c.in-Some.ensures.cases.0 within c.loop-i.invariant none in
+    λ k l h. more k l (omega (arith, h))

@@ -1,12 +1,8 @@
--- The invariant: every byte before i is 0. The measure is what is left.
+-- The invariant: every byte before the group is 0.
 -- Assumes nothing.
-use Prim.Native.Nat.{◌-◌, ◌≤◌}
-use lib.ListN.{length}
+use Prim.Native.Nat.{◌*◌}
 use Rattle.minimal.specs.Groups.{ZerosFrom}
 use Rattle.minimal.proofs.eights_passed.Given as goal
 
 abbrev pub invariant-loop-i : goal.invariant-loop-i
-invariant-loop-i l = (l.i ≤ length l.digits) × ZerosFrom l.digits 0 l.i
-
-abbrev pub decreases-loop-i : goal.decreases-loop-i
-decreases-loop-i l = length l.digits - l.i
+invariant-loop-i l = ZerosFrom l.digits 0 (8 * l.i)

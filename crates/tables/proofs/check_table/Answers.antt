@@ -1,57 +1,49 @@
--- 6; then the tests of an undamaged store, with a map as large as the table asks for.
--- Assumes nothing.
-use native.Mathlib.Omega.{arith}
-use mathlib.Core.Path.{◌≡◌, sym, ◌∙◌, subst}
+-- 6; then the tests of an undamaged store, with a map as large as the table asks for. Assumes nothing.
+use mathlib.Core.Path.{◌≡◌, sym, ap, ◌∙◌, subst}
 use mathlib.Core.List.{List}
-use mathlib.Core.Logic.{inl}
 use Prim.Native.Nat.{ℕ}
+use Rattle.std.proofs.Common.{Err}
+use Rattle.std.proofs.lemmas.Result.{err_from_is_err_and}
 use Rattle.units.specs.Reply.{Reply}
 use Rattle.records.specs.Store.{Store, store_of, words_per_section}
-use Rattle.records.specs.Damage.{whole_soundness}
+use Rattle.records.specs.Sections.{Section}
 use Rattle.layout.specs.Answer.{Laid}
-use Rattle.tables.specs.TableTests.{table_test}
+use Rattle.settling.specs.Settle.{settled_reply}
+use Rattle.settling.specs.SectionWalk.{sections_in}
+use Rattle.settling.proofs.Sections.{sections_same}
+use Rattle.tables.specs.TableTests.{table_answer, table_reply, table_test}
 use Rattle.tables.specs.TableAnswers.{AcceptsEnough}
 use Rattle.tables.proofs.TableLaws.{sound_test, damaged_test, accepts_enough}
 use Rattle.tables.proofs.check_table.Goals as goal
-use Rattle.tables.proofs.check_table.Goals.{After-check_store, Start}
-
--- the entry and the store, seen from where the store is tested
-abbrev entry : goal.After-check_store → goal.Start
-entry c = (goal.at.After-check_store c).Start
-
-abbrev store-of : goal.Start → Store
-store-of s = store_of s.args.store s.args.bytes.now s.args.words.now
-
--- what the test found
-tested : (c : goal.After-check_store) → whole_soundness words_per_section (store-of (entry c)) ≡ c.check_store.result
-tested c = sym c.check_store.ensures
+use Rattle.tables.proofs.check_table.Goals.{In_ok-store}
 
 -- the contract, of a reply that is the defined one
 kept : (st : Store) (table : List ℕ) {reply : Reply Laid} → reply ≡ table_test words_per_section st table
     → (reply ≡ table_test words_per_section st table) × AcceptsEnough words_per_section st table reply
 kept st table e = (e, subst (AcceptsEnough words_per_section st table) (sym e) (accepts_enough words_per_section st table))
 
-pub check_in-requires : goal.check_in-requires
-check_in-requires c = record {
-  whole = tested (goal.at.check_in-requires c).After-check_store ∙ c.in-Sound.is;
-  covers = inl c.if-table-le-SMALL.true;
-  fits = omega arith;
-}
+-- of what the sections answer
+answered : (c : In_ok-store) {reply : Reply Laid} → reply ≡ table_reply (table_answer c.args.table.now (sections_in c.in_ok-store.store))
+    → let st = store_of c.args.store c.args.bytes.now c.args.words.now in
+    (reply ≡ table_test words_per_section st c.args.table.now) × AcceptsEnough words_per_section st c.args.table.now reply
+answered c e =
+    let st = store_of c.args.store c.args.bytes.now c.args.words.now in
+    let same = sections_same c.in_ok-store.store c.args.store c.args.bytes.now c.args.words.now c.in_ok-store.ensures.store in
+    kept st c.args.table.now (e ∙ ap (λ (ss : List Section). table_reply (table_answer c.args.table.now ss)) same ∙ sym (sound_test words_per_section st c.args.table.now (sym c.in_ok-store.ensures.soundness)))
+
+pub returns-in_err-store : goal.returns-in_err-store
+returns-in_err-store c =
+    let p = err_from_is_err_and c.from_residual.result c.from_residual.ensures.1 in
+    let st = store_of c.args.store c.args.bytes.now c.args.words.now in
+    let all = kept st c.args.table.now (ap settled_reply (p.1 ∙ ap Err p.2) ∙ sym (damaged_test words_per_section st c.args.table.now _ (sym c.in_err-store.ensures.soundness))) in
+    record { reply = all.0; enough = all.1 }
 
 pub returns-then-table-le-SMALL : goal.returns-then-table-le-SMALL
 returns-then-table-le-SMALL c =
-    let test = (goal.at.returns-then-table-le-SMALL c).After-check_store in
-    let all = kept _ _ (c.check_in.ensures ∙ sym (sound_test words_per_section (store-of (entry test)) c.args.table.now (tested test ∙ c.in-Sound.is))) in
+    let all = answered (goal.at.returns-then-table-le-SMALL c).In_ok-store c.check_in.ensures in
     record { reply = all.0; enough = all.1 }
 
-pub returns-in-Damaged : goal.returns-in-Damaged
-returns-in-Damaged c =
-    let test = (goal.at.returns-in-Damaged c).After-check_store in
-    let all = kept _ _ (sym (damaged_test words_per_section (store-of (entry test)) c.args.table.now _ (tested test ∙ c.in-Damaged.is))) in
-    record { reply = all.0; enough = all.1 }
-
-pub returns-else-table-le-SMALL : goal.returns-else-table-le-SMALL
-returns-else-table-le-SMALL c =
-    let test = (goal.at.returns-else-table-le-SMALL c).After-check_store in
-    let all = kept _ _ (c.check_in-in-Sound.ensures ∙ sym (sound_test words_per_section (store-of (entry test)) c.args.table.now (tested test ∙ c.in-Sound.is))) in
+pub returns : goal.returns
+returns c =
+    let all = answered (goal.at.returns c).In_ok-store c.check_in-2.ensures in
     record { reply = all.0; enough = all.1 }

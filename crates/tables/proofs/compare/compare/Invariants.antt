@@ -3,7 +3,7 @@
 use mathlib.Core.Path.{◌≡◌}
 use Rattle.slices.proofs.First.{NoneBefore}
 use Rattle.layout.specs.Conditions.{backward_at}
-use Rattle.settling.specs.SectionWalk.{sections_of}
+use Rattle.settling.specs.SectionWalk.{sections_in}
 use Rattle.settling.proofs.Sections.{Room}
 use Rattle.tables.specs.MarkMap.{Marked}
 use Rattle.tables.specs.TableTests.{sum_before}
@@ -13,8 +13,8 @@ use Rattle.tables.proofs.compare.compare.Given as goal
 
 abbrev pub invariant-loop-i : goal.invariant-loop-i
 invariant-loop-i g l =
-    Room (sections_of l.fn.store l.fn.bytes l.words) l.i l.sum
-    × NoneBefore (stops_at l.table (sections_of l.fn.store l.fn.bytes l.words)) l.i
-    × (l.sum ≡ sum_before l.table (sections_of l.fn.store l.fn.bytes l.words) l.i)
-    × Marked (sections_of l.fn.store l.fn.bytes l.words) l.i l.map.bits
-    × SoFar (backward_at l.table (sections_of l.fn.store l.fn.bytes l.words)) l.i l.backward
+    Room (sections_in l.store) l.i l.sum
+    × NoneBefore (stops_at l.table (sections_in l.store)) l.i
+    × (l.sum ≡ sum_before l.table (sections_in l.store) l.i)
+    × Marked (sections_in l.store) l.i l.map.bits
+    × SoFar (backward_at l.table (sections_in l.store)) l.i l.backward

@@ -8,55 +8,51 @@ use lib.ListN.{length}
 use borrow.Author.Rules.{rules}
 use Rattle.records.specs.Record.{mark_kind}
 use Rattle.layout.specs.Conditions.{has_bytes, apart_at}
-use Rattle.settling.specs.SectionWalk.{sections_of, MarksIn}
+use Rattle.settling.specs.SectionWalk.{sections_in, MarksIn}
 use Rattle.settling.proofs.SectionWords.{as_mark, not_mark, ordered}
-use Rattle.settling.proofs.Sections.{words_fit_lem, Turn, turn}
+use Rattle.settling.proofs.Sections.{sections_count, Turn, turn_at}
 use Rattle.settling.proofs.FirstPlacings.{apart_none}
 use Rattle.tables.specs.MarkMap.{in_map}
 use Rattle.tables.proofs.MarkMaps.{replicated}
-use Rattle.tables.proofs.Turns.{count}
 use Rattle.tables.proofs.Searches.{turn_covered, bytes_words_lem, searched_start, apart_by, next_empty, next_bytes}
-use Rattle.tables.proofs.search.first_apart.Given.{Over}
-use Rattle.tables.proofs.search.first_apart.Goals as goal
-use Rattle.tables.proofs.search.first_apart.Goals.{then-section-eq-MARK+else-contains, else-section-eq-MARK+then-has_bytes, else-section-eq-MARK+else-has_bytes}
-use Rattle.tables.proofs.search.first_apart.Goals.{After-section_words-section}
+use Rattle.tables.proofs.search.Fitting.first_apart.Given.{Over}
+use Rattle.tables.proofs.search.Fitting.first_apart.Goals as goal
+use Rattle.tables.proofs.search.Fitting.first_apart.Goals.{then-section-eq-MARK+else-contains, else-section-eq-MARK+then-has_bytes, else-section-eq-MARK+else-has_bytes}
+use Rattle.tables.proofs.search.Fitting.first_apart.Goals.{After-section-section}
 
-here : (g : Over) (c : goal.After-section_words-section g) → Turn (sections_of c.args.store c.args.bytes.now c.args.words.now) c.loop-i.i c.section_words-section.result
-here g c = turn _ _ _ c.requires.fitting.whole _ _ c.loop-i-test.true c.section_words-section.ensures
+here : (g : Over) (c : goal.After-section-section g) → Turn (sections_in c.args.self.store) c.loop-i.i c.section-section.result
+here g c = turn_at c.args.self.store _ _ c.loop-i-test.true c.section-section.ensures
 
 -- the map has room for its marks
-marks : (g : Over) (c : goal.After-section_words-section g) → MarksIn (8 * g.row.BYTES) c.section_words-section.result
-marks g c = turn_covered _ _ _ _ _ c.requires.fitting c.requires.covers _ _ c.loop-i-test.true c.section_words-section.ensures
+marks : (g : Over) (c : goal.After-section-section g) → MarksIn (8 * g.row.BYTES) c.section-section.result
+marks g c = turn_covered c.args.self.store _ _ c.args.self.in_table c.args.self.covers _ _ c.loop-i-test.true c.section-section.ensures
 
 -- of a mark the code's test is 9's
-tested : (g : Over) (c : goal.After-section_words-section g) (r : Bool) → c.section_words-section.result.kind ≡ mark_kind
-    → r ≡ in_map c.loop-i.map.bits c.section_words-section.result.first → r ≡ apart_at (sections_of c.args.store c.args.bytes.now c.args.words.now) c.loop-i.i
+tested : (g : Over) (c : goal.After-section-section g) (r : Bool) → c.section-section.result.kind ≡ mark_kind
+    → r ≡ in_map c.loop-i.map.bits c.section-section.result.first → r ≡ apart_at (sections_in c.args.self.store) c.loop-i.i
 tested g c r k e =
     let t = here g c in
-    let room : c.section_words-section.result.first < 8 * length c.loop-i.map.bits = omega (arith, (marks g c).placed k, c.loop-i.map.whole) in
+    let room : c.section-section.result.first < 8 * length c.loop-i.map.bits = omega (arith, (marks g c).placed k, c.loop-i.map.whole) in
     e ∙ apart_by _ _ _ _ t.below c.loop-i.invariant _ (as_mark t.words k) room
 
 pub loop-i-init : goal.loop-i-init
-loop-i-init g c = searched_start _ _ (replicated _ c.args.map.now.bits c.args.map.now.whole c.requires.empty)
-
-pub section_words-section-requires : goal.section_words-section-requires
-section_words-section-requires g c = words_fit_lem _ _ _ c.requires.fitting.whole c.loop-i.i c.loop-i-test.true
+loop-i-init g c = searched_start _ _ (replicated _ c.args.map.now.bits c.args.map.now.whole c.requires)
 
 pub contains-requires : goal.contains-requires
-contains-requires g c = (search rules, (marks g (goal.at.contains-requires g c).After-section_words-section).placed c.if-section-eq-MARK.true)
+contains-requires g c = (search rules, (marks g (goal.at.contains-requires g c).After-section-section).placed c.if-section-eq-MARK.true)
 
 pub returns-then-contains : goal.returns-then-contains
 returns-then-contains g c =
-    let read = (goal.at.returns-then-contains g c).After-section_words-section in
+    let read = (goal.at.returns-then-contains g c).After-section-section in
     ((here g read).below, sym (tested g read _ c.if-section-eq-MARK.true c.contains.ensures) ∙ c.if-contains.true, c.loop-i.invariant.together)
 
 pub has_bytes-requires : goal.has_bytes-requires
-has_bytes-requires g c = ordered (here g (goal.at.has_bytes-requires g c).After-section_words-section).words
+has_bytes-requires g c = ordered (here g (goal.at.has_bytes-requires g c).After-section-section).words
 
 pub loop-i-preserved : goal.loop-i-preserved
 loop-i-preserved g c =
-    let read = (goal.at.loop-i-preserved g c).After-section_words-section in
-    let ss = sections_of c.args.store c.args.bytes.now c.args.words.now in
+    let read = (goal.at.loop-i-preserved g c).After-section-section in
+    let ss = sections_in c.args.self.store in
     let i = c.loop-i.i in
     let inv = c.loop-i.invariant in
     let t = here g read in
@@ -76,4 +72,4 @@ loop-i-preserved g c =
     ]
 
 pub returns : goal.returns
-returns g c i l = c.loop-i.invariant.together i (omega (arith, count c.args.store c.args.bytes.now c.args.words.now))
+returns g c i l = c.loop-i.invariant.together i (omega (arith, sections_count c.args.self.store))

@@ -2,8 +2,8 @@
 -- i is one. Assumes nothing.
 use Rattle.slices.proofs.First.{NoneBefore}
 use Rattle.layout.specs.Conditions.{unplaced_at}
-use Rattle.settling.specs.SectionWalk.{sections_of}
-use Rattle.tables.proofs.search.first_unplaced.Given as goal
+use Rattle.settling.specs.SectionWalk.{sections_in}
+use Rattle.tables.proofs.search.Fitting.first_unplaced.Given as goal
 
 abbrev pub invariant-loop-i : goal.invariant-loop-i
-invariant-loop-i g l = NoneBefore (unplaced_at (sections_of l.fn.store l.fn.bytes l.words)) l.i
+invariant-loop-i g l = NoneBefore (unplaced_at (sections_in l.self.store)) l.i
