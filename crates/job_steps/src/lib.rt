@@ -18,7 +18,7 @@ pub use validate::MAX_JOB;
 use validate::job_parts;
 
 // Why a job came to nothing: it is none, which is number 15, or a call or assembly was refused.
-#[derive(Clone, Copy)]
+#[derive(Clone, Copy, Debug, PartialEq, Eq)]
 pub enum JobError {
     BadJob,
     Refused(Refusal),

@@ -11,10 +11,16 @@ use crate::JobError;
 use crate::read::{Parts, step_of};
 use crate::validate::{Call, call_of};
 use records::Assembler;
-use store::{Built, push_data, push_mark, push_op_byte, push_reference};
+use store::{push_data, push_mark, push_op_byte, push_reference};
+use units::Refusal;
 
 // Makes a call.
-fn make_call(call: Call<'_>, store: Assembler, bytes: &mut [u8], words: &mut [u32]) -> Built
+fn make_call(
+    call: Call<'_>,
+    store: Assembler,
+    bytes: &mut [u8],
+    words: &mut [u32],
+) -> Result<Assembler, Refusal>
     ensures reply { built_reply result ≡ push_reply words_per_section (push_of call.entry)
         (store_of store bytes.old words.old) }
     ensures bytes { bytes.new ≡ (push_after words_per_section (push_of call.entry)
@@ -50,10 +56,7 @@ pub(crate) fn run_steps(
         let Some(call) = call_of(step_of(step), job.pool) else {
             return Err(JobError::BadJob);
         };
-        match make_call(call, store, bytes, words) {
-            Built::Stored(next) => store = next,
-            Built::Refused(refusal) => return Err(JobError::Refused(refusal)),
-        }
+        store = make_call(call, store, bytes, words)?;
     }
     Ok(store)
 }

@@ -7,7 +7,7 @@ ghost use Rattle.numbers.specs.Forms.{is_form};
 
 use crate::read::{Parts, STEP_BYTES, Step, step_of, whole_parts};
 use numbers::{formed, is_form};
-use units::{AsmReference, MarkId, MarkReference, MarkSpan};
+use units::{AsmReference, MarkId, MarkReference, Span};
 
 // The longest job.
 pub const MAX_JOB: usize = 32768;
@@ -45,7 +45,7 @@ pub(crate) fn call_of<'a>(step: Step, pool: &'a [u8]) -> Option<Call<'a>>
         DATA => Some(Call::Data(pool.get(first as usize..second as usize)?)),
         DIRECT => reference(MarkReference::Direct(MarkId(first)), second),
         kind => {
-            let span = MarkSpan {
+            let span = Span {
                 start: MarkId(first),
                 end: MarkId(second),
             };

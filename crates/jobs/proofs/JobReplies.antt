@@ -17,7 +17,7 @@ use Rattle.records.specs.Sections.{decode}
 use Rattle.assembler.specs.Assemble.{Outcome as Assembly, is_full, writing, assembly}
 use Rattle.assembler.proofs.Outcomes.{fits_law}
 use Rattle.std.specs.declared.result.Result.{Result}
-use Rattle.jobs.specs.declared.LaidOut.{LaidOut}
+use Rattle.units.specs.declared.reply.LaidOut.{LaidOut}
 use Rattle.job_steps.specs.declared.JobError.{JobError}
 use Rattle.job_steps.specs.JobFormat.{is_job}
 use Rattle.job_steps.specs.JobCalls.{job_calls, built_by}

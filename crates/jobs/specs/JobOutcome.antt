@@ -7,7 +7,7 @@ use Rattle.records.specs.Store.{Store, store_of, empty_counts}
 use Rattle.calls.specs.Calls.{BuiltReply, all_reply}
 use Rattle.layout.specs.Answer.{Laid}
 use Rattle.assembler.specs.Assemble.{written, assembly}
-use Rattle.jobs.specs.declared.LaidOut.{LaidOut}
+use Rattle.units.specs.declared.reply.LaidOut.{LaidOut}
 use Rattle.jobs.specs.declared.JobRun.{JobRun}
 use Rattle.jobs.specs.declared.ShortText.{ShortText}
 use Rattle.job_steps.specs.declared.JobError.{JobError}

@@ -6,31 +6,24 @@ mod text;
 
 ghost use Rattle.std.specs.Prelude.{◌≡◌, ◌≤◌, ltb, length};
 ghost use Rattle.records.specs.Store.{words_per_section};
-ghost use Rattle.assembler.specs.Assemble.{assembled_reply};
 ghost use Rattle.slices.specs.Over.{over};
 ghost use Rattle.jobs.specs.JobText.{text_for, longest_text};
 ghost use Rattle.jobs.specs.JobOutcome.{lent_slices, job_reply, job_result, FitsIn, answer_of, job_outcome, TextWithin};
 
-use assembler::{Assembled, assemble};
+use assembler::assemble;
 use job_steps::{JobError, build_job};
 use text::{write_code, write_refused};
-
-// What assembly of a job answers: the code's length, and the passes made.
-#[derive(Clone, Copy)]
-pub struct LaidOut {
-    pub length: u32,
-    pub passes: u32,
-}
+use units::LaidOut;
 
 // What running a job answers: what the job came to, and the text's length.
-#[derive(Clone, Copy)]
+#[derive(Clone, Copy, Debug, PartialEq, Eq)]
 pub struct JobRun {
     pub reply: Result<LaidOut, JobError>,
     pub text_length: usize,
 }
 
 // The text buffer is shorter than the longest text.
-#[derive(Clone, Copy)]
+#[derive(Clone, Copy, Debug, PartialEq, Eq)]
 pub struct ShortText;
 
 // 15: the number of a job that is none.
@@ -92,16 +85,6 @@ fn write_reply(reply: Result<LaidOut, JobError>, res: &[u8], text: &mut [u8]) ->
     }
 }
 
-// What assembly answered.
-fn reply_of(assembled: Assembled) -> Result<LaidOut, JobError>
-    ensures { job_reply result ≡ assembled_reply assembled }
-{
-    match assembled {
-        Assembled::Written { length, passes } => Ok(LaidOut { length, passes }),
-        Assembled::Refused(refusal) => Err(JobError::Refused(refusal)),
-    }
-}
-
 // 15, or the calls in turn and then assembly.
 // Kept: the four slices as parameters, since a struct of them would stand only between this function and `run_job`, whose own are named
 // in docs/CLAIMS.md.
@@ -119,5 +102,5 @@ fn make(
         (lent_slices bytes.old words.old table.old res.old)).slices }
 {
     let store = build_job(job, bytes, words)?;
-    reply_of(assemble(store, bytes, words, table, res, 0))
+    Ok(assemble(store, bytes, words, table, res, 0)?)
 }

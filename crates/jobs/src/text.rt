@@ -3,8 +3,7 @@ ghost use Rattle.std.specs.Prelude.{◌≡◌, ◌+◌, ◌*◌, ◌≤◌, ◌<
 ghost use Rattle.slices.specs.Over.{over};
 ghost use Rattle.jobs.specs.JobText.{code_text, refused_text};
 
-use lines::{write_decimal, write_hex};
-use slices::write_bytes;
+use lines::TextSink;
 
 // `code `, lower-case hex and a line feed.
 pub(crate) fn write_code(text: &mut [u8], code: &[u8]) -> usize
@@ -13,11 +12,11 @@ pub(crate) fn write_code(text: &mut [u8], code: &[u8]) -> usize
     ensures value { result ≡ length (code_text code.now) }
     ensures text_after { text.new ≡ over text.old 0 (code_text code.now) }
 {
-    write_bytes(text, 0, b"code ");
-    write_hex(text, 5, code);
-    let end = 5 + 2 * code.len();
-    write_bytes(text, end, b"\n");
-    end + 1
+    let mut sink = TextSink::new(text, 0);
+    sink.put(b"code ");
+    sink.put_hex(code);
+    sink.put(b"\n");
+    sink.place()
 }
 
 // `refused 8 at 3` and a line feed.
@@ -27,11 +26,11 @@ pub(crate) fn write_refused(text: &mut [u8], number: u32, section: u32) -> usize
     ensures value { result ≡ length (refused_text number section) }
     ensures text_after { text.new ≡ over text.old 0 (refused_text number section) }
 {
-    write_bytes(text, 0, b"refused ");
-    let numbered = 8 + write_decimal(text, 8, number);
-    write_bytes(text, numbered, b" at ");
-    let named = numbered + 4;
-    let placed = named + write_decimal(text, named, section);
-    write_bytes(text, placed, b"\n");
-    placed + 1
+    let mut sink = TextSink::new(text, 0);
+    sink.put(b"refused ");
+    sink.put_decimal(number);
+    sink.put(b" at ");
+    sink.put_decimal(section);
+    sink.put(b"\n");
+    sink.place()
 }

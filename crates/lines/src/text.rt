@@ -49,7 +49,7 @@ impl<'a> TextSink<'a> {
 
     // A byte string, counted at once where no byte of it can be stored.
     #[tactic(auto, unfolding(crate::specs::Sink::added))]
-    pub(crate) fn put(&mut self, bytes: &[u8])
+    pub fn put(&mut self, bytes: &[u8])
         ensures { self.new ≡ added self.old bytes.now }
     {
         if self.text.len() <= self.place {
@@ -62,7 +62,7 @@ impl<'a> TextSink<'a> {
     }
 
     // Bytes in hex; counted at once, as `put` does, where none can be stored.
-    pub(crate) fn put_hex(&mut self, bytes: &[u8])
+    pub fn put_hex(&mut self, bytes: &[u8])
         ensures { self.new ≡ added self.old (hex bytes.now) }
     {
         if self.text.len() <= self.place {
@@ -76,7 +76,7 @@ impl<'a> TextSink<'a> {
     }
 
     // A number in decimal.
-    pub(crate) fn put_decimal(&mut self, value: u32)
+    pub fn put_decimal(&mut self, value: u32)
         ensures { self.new ≡ added self.old (decimal value) }
     {
         if value < 10 {

@@ -1,56 +1,53 @@
--- The five parts in a row; a number has at most two digits, a section ten.
+-- The five parts in a row, from the buffer's start on.
 -- Assumes nothing.
 use native.Mathlib.Omega.{arith}
-use Prim.Native.Nat.{◌≤◌}
+use Prim.Native.Nat.{◌<◌, ◌≤◌, ◌^◌}
+use mathlib.Core.Path.{◌≡◌, ap, ◌∙◌}
+use mathlib.Core.List.{append_assoc, ◌++◌}
+use lib.ListN.{length}
+use Rattle.std.proofs.Common.{rules}
 use Rattle.opcodes.specs.Text.{as_bytes}
-use Rattle.jobs.proofs.JobTexts.{number_digits, section_digits, refused_written}
+use Rattle.lines.specs.Sink.{added}
+use Rattle.lines.specs.Decimal.{decimal}
+use Rattle.lines.proofs.Sinks.{then, added_is, counted_small}
+use Rattle.jobs.specs.JobText.{refused_text}
+use Rattle.jobs.proofs.JobTexts.{refused_most, over_put}
 use Rattle.jobs.proofs.text.write_refused.Goals as goal
-use Rattle.jobs.proofs.text.write_refused.Goals.{After-write_decimal, After-write_decimal-numbered, Start}
+use Rattle.jobs.proofs.text.write_refused.Goals.{After-place}
 
--- the start, seen from after the number, and the number from after the section
-abbrev start_of : goal.After-write_decimal-numbered → goal.Start
-start_of c = (goal.at.After-write_decimal-numbered c).Start
+-- the sink at the end
+put : (c : goal.After-place) → c.put-3.new.self ≡ added c.new-sink.result (refused_text c.args.number c.args.section)
+unfolding refused_text as_bytes
+put c =
+    let short : length c.new-sink.result.text.now < 2 ^ 64 = omega (arith, ap (λ (t : _). length t.now) c.new-sink.ensures.0) in
+    let x = as_bytes "refused " in
+    let n = decimal c.args.number in
+    let i = decimal c.args.section in
+    let named = then _ _ _ short (then _ _ _ short c.put.ensures c.put_decimal.ensures) c.put-2.ensures in
+    let all = then _ _ _ short (then _ _ _ short named c.put_decimal-2.ensures) c.put-3.ensures in
+    added_is _
+    (append_assoc ((x ++ n) ++ as_bytes " at ") i (as_bytes "\n") ∙ append_assoc (x ++ n) (as_bytes " at ") (i ++ as_bytes "\n") ∙ append_assoc x n (as_bytes " at " ++ (i ++ as_bytes "\n")))
+    all
 
-abbrev numbered : goal.After-write_decimal → goal.After-write_decimal-numbered
-numbered c = (goal.at.After-write_decimal c).After-write_decimal-numbered
+-- it has room
+fits : (c : goal.After-place) → length (refused_text c.args.number c.args.section) ≤ 25
+fits c = refused_most c.args.number c.args.section c.requires.1 (omega arith)
 
--- so many digits at most
-few : (c : goal.After-write_decimal-numbered) → c.write_decimal-numbered.result ≤ 2
-few c =
-    let s = start_of c in
-    let digits = number_digits s.args.text.now s.args.number s.args.section s.requires.0 s.requires.1 (omega arith) in
-    let counted = c.write_decimal-numbered.ensures.digits in
-    omega (arith, digits, counted)
+-- its place
+placed : (c : goal.After-place) → c.place.result ≡ length (refused_text c.args.number c.args.section)
+placed c = c.place.ensures ∙ counted_small _ _ (omega (arith, fits c)) c.new-sink.ensures.1 (put c)
 
-few-more : (c : goal.After-write_decimal) → c.write_decimal.result ≤ 10
-few-more c =
-    let s = start_of (numbered c) in
-    let digits = section_digits s.args.text.now s.args.number s.args.section s.requires.0 s.requires.1 (omega arith) in
-    let counted = c.write_decimal.ensures.digits in
-    omega (arith, digits, counted)
+pub returns-clause-value : goal.returns-clause-value
+returns-clause-value c = placed (goal.at.returns-clause-value c).After-place
 
-pub overflow_add-numbered : goal.overflow_add-numbered
-overflow_add-numbered c = omega (arith, few (goal.at.overflow_add-numbered c).After-write_decimal-numbered)
+pub returns-clause-upper_bound : goal.returns-clause-upper_bound
+returns-clause-upper_bound c =
+    let sink = (goal.at.returns-clause-upper_bound c).After-place in
+    omega (arith, placed sink, fits sink, c.requires.0)
 
-pub overflow_add-named : goal.overflow_add-named
-overflow_add-named c = let number = (goal.at.overflow_add-named c).After-write_decimal-numbered in omega (arith, few number)
-
-pub overflow_add-placed : goal.overflow_add-placed
-overflow_add-placed c = let section = (goal.at.overflow_add-placed c).After-write_decimal in omega (arith, few (numbered section), few-more section)
-
-pub overflow_add-result : goal.overflow_add-result
-overflow_add-result c = let section = (goal.at.overflow_add-result c).After-write_decimal in omega (arith, few (numbered section), few-more section)
-
-pub returns : goal.returns
-unfolding as_bytes
-returns c =
-    let ended = c in
-    let placed = (goal.at.returns ended).After-write_decimal in
-    let parted = placed in
-    let number = numbered placed in
-    let named = number in
-    let s = start_of number in
-    let all = refused_written s.args.text.now s.args.number s.args.section s.requires.0 s.requires.1 (omega arith) _ _ _ _ _ _ _
-    number.write_decimal-numbered.ensures.digits placed.write_decimal.ensures.digits named.write_bytes.ensures number.write_decimal-numbered.ensures.text
-    parted.write_bytes-2.ensures placed.write_decimal.ensures.text ended.write_bytes-3.ensures in
-    record { upper_bound = all.0; value = all.1.0; text_after = all.1.1 }
+pub returns-clause-text_after : goal.returns-clause-text_after
+unfolding added
+returns-clause-text_after c =
+    let sink = (goal.at.returns-clause-text_after c).After-place in
+    let all = put sink in
+    over_put c.args.text.now _ (refused_text c.args.number c.args.section) (omega (arith, fits sink, c.requires.0)) (search rules)
