@@ -14,18 +14,14 @@ ghost use Rattle.minimal.specs.Zeros.{LeadingZeros, looked};
 ghost use Rattle.facts.specs.Facts.{landing_number, name_number, name_array};
 
 use evm::landing::Landing;
-use evm::op::PushSize;
 use numbers::{Form, NAMES_NOTHING, form_of, refusal_number};
-use units::{AsmReference, MarkId, MarkReference, Refusal, SetSize, SizeFor};
+use units::{AsmReference, MarkId, MarkReference, Refusal};
 
 // Whether a jump may land: 1 yes, 0 no.
 pub fn lands(code: &[u8], offset: usize) -> u32
     ensures { result ≡ landing_number (landing_at code.now offset) }
 {
-    match evm::landing::lands(code, offset) {
-        Landing::Yes => 1,
-        Landing::No => 0,
-    }
+    u32::from(evm::landing::lands(code, offset) == Landing::Yes)
 }
 
 // The name of an opcode into the array's first bytes: low = its length. 255 if the array has no room for it.
@@ -45,10 +41,7 @@ pub fn op_name(byte: u8, name: &mut [u8]) -> u64
 pub fn push_size(byte: u8) -> u32
     ensures { result ≡ immediate_bytes (op_push_size byte) }
 {
-    match evm::op::push_size(byte) {
-        PushSize::NoPush => 0,
-        PushSize::Bytes(n) => n as u32,
-    }
+    evm::op::push_size(byte).map_or(0, u32::from)
 }
 
 // The bytes that hold a value, 1 to 4.
@@ -62,23 +55,22 @@ pub fn bytes_to_hold(value: u32) -> u32
 pub fn size_for(form: u32, value: u32) -> u64
     ensures { result ≡ size_for_number (form_of form) value }
 {
-    let Form::Names(set_size, pushed) = form_of(form) else {
+    let Some(form) = form_of(form) else {
         return NAMES_NOTHING;
     };
-    match any_mark(set_size, pushed).size_for(value) {
-        SizeFor::Bytes(bytes) => bytes as u64,
-        SizeFor::TooNarrow => too_narrow(),
-    }
+    any_mark(form)
+        .size_for(value)
+        .map_or(too_narrow(), u64::from)
 }
 
 // `AsmReference::least_size`: low = bytes; 255 if the form names nothing.
 pub fn least_size(form: u32) -> u64
     ensures { result ≡ least_size_number (form_of form) }
 {
-    let Form::Names(set_size, pushed) = form_of(form) else {
+    let Some(form) = form_of(form) else {
         return NAMES_NOTHING;
     };
-    any_mark(set_size, pushed).least_size() as u64
+    u64::from(any_mark(form).least_size())
 }
 
 // The scan for the first nonzero byte: the zero bytes before it and the bytes looked at, added. The second is the first or one more, so half
@@ -102,12 +94,12 @@ fn too_narrow() -> u64
 }
 
 // A reference of these sizes, which no mark enters.
-fn any_mark(set_size: SetSize, pushed: bool) -> AsmReference
-    ensures { result ≡ formed (direct 0) set_size pushed }
+fn any_mark(form: Form) -> AsmReference
+    ensures { result ≡ formed (direct 0) form.set_size form.pushed }
 {
     AsmReference {
         mark_ref: MarkReference::Direct(MarkId(0)),
-        set_size,
-        pushed,
+        set_size: form.set_size,
+        pushed: form.pushed,
     }
 }

@@ -1,51 +1,50 @@
-// The steps that assemble the store into the result, settle its offsets, and write its code by the table as it is.
-use crate::printing::{say_assembled, say_settled};
-use records::Assembler;
-use std::io;
-use std::io::Stdout;
+// The steps that assemble the store into the result, settle its offsets, and write its code by the table as it is. Each slice is lent by
+// `&mut *`, also where the call only reads it: the borrow checker covers no `&` of a field here beside a loan of another.
+use crate::machine::Machine;
+use crate::stop::Stop;
+use std::io::Print;
+use units::LaidOut;
 
-// Kind 20: the code, written into the result from position a on.
-pub(crate) fn assemble(
-    out: Stdout,
-    store: Assembler,
-    a: u32,
-    bytes: &[u8],
-    words: &[u32],
-    table: &mut [u32],
-    res: &mut [u8],
-) -> io::Result<Assembler> {
-    say_assembled(
-        out,
-        assembler::assemble(store, bytes, words, table, res, a as usize),
-    )?;
-    Ok(store)
-}
+impl<'a> Machine<'a> {
+    // The code, written into the result from the position on.
+    pub(crate) fn assemble(&mut self, position: usize) -> Result<(), Stop> {
+        let answer = assembler::assemble(
+            self.store,
+            &mut *self.bytes,
+            &mut *self.words,
+            &mut *self.table,
+            &mut *self.result,
+            position,
+        );
+        self.say_laid_out(answer?)
+    }
 
-// Kind 23: the offsets, into the table.
-pub(crate) fn settle(
-    out: Stdout,
-    store: Assembler,
-    bytes: &[u8],
-    words: &[u32],
-    table: &mut [u32],
-) -> io::Result<Assembler> {
-    say_settled(out, settling::settle(store, bytes, words, table))?;
-    Ok(store)
-}
+    // The code by the table as it is, written into the result from the position on.
+    pub(crate) fn write(&mut self, position: usize) -> Result<(), Stop> {
+        let answer = assembler::write(
+            self.store,
+            &mut *self.bytes,
+            &mut *self.words,
+            &mut *self.table,
+            &mut *self.result,
+            position,
+        );
+        self.say_laid_out(answer?)
+    }
 
-// Kind 29: the code by the table as it is, written into the result from position a on.
-pub(crate) fn write(
-    out: Stdout,
-    store: Assembler,
-    a: u32,
-    bytes: &[u8],
-    words: &[u32],
-    table: &[u32],
-    res: &mut [u8],
-) -> io::Result<Assembler> {
-    say_assembled(
-        out,
-        assembler::write(store, bytes, words, table, res, a as usize),
-    )?;
-    Ok(store)
+    // The offsets, into the table.
+    pub(crate) fn settle(&mut self) -> Result<(), Stop> {
+        let answer = settling::settle(
+            self.store,
+            &mut *self.bytes,
+            &mut *self.words,
+            &mut *self.table,
+        );
+        self.say_laid_out(answer?)
+    }
+
+    fn say_laid_out(&self, laid_out: LaidOut) -> Result<(), Stop> {
+        println!(self.out; "length {} passes {}", laid_out.length, laid_out.passes)?;
+        Ok(())
+    }
 }

@@ -1,13 +1,10 @@
-// The script: its header and its limits, and one step. Every number is four bytes, highest first.
-ghost use Rattle.std.specs.Prelude.{◌+◌, ◌≤◌, length};
-ghost use Rattle.replay.specs.Header.{good_is_lendable};
+// The script: its limits and its parts. Every number is four bytes, highest first.
+ghost use Rattle.std.specs.Prelude.{◌≤◌, IfSome};
+ghost use Rattle.replay.specs.declared.script.TheConstants.{MAX_BYTES, MAX_WORDS, MAX_TABLE, MAX_RESULT, MAX_LISTING};
 
-// Six numbers; after them the pool, and then the steps.
-pub(crate) const HEADER_BYTES: usize = 24;
+use crate::step::STEP_BYTES;
 
-pub(crate) const STEP_BYTES: usize = 9;
-
-// The largest numbers that a header may have.
+// The longest script, and the largest numbers that a header may have.
 pub(crate) const MAX_SCRIPT: usize = 1048576;
 
 pub(crate) const MAX_BYTES: usize = 131072;
@@ -20,88 +17,56 @@ pub(crate) const MAX_RESULT: usize = 262144;
 
 pub(crate) const MAX_LISTING: usize = 1048576;
 
-// The lengths of the five slices, and the pool count.
+// Six numbers; after them the pool, and then the steps.
+const HEADER_BYTES: usize = 24;
+
+// The lengths of the five slices, each within its limit, the pool and the steps.
 #[derive(Clone, Copy)]
-pub(crate) struct Header {
+pub(crate) struct Script<'a> {
     pub(crate) bytes: usize,
     pub(crate) words: usize,
     pub(crate) table: usize,
     pub(crate) result: usize,
     pub(crate) listing: usize,
-    pub(crate) pool: usize,
+    pub(crate) pool: &'a [u8],
+    pub(crate) steps: &'a [[u8; STEP_BYTES]],
+    ghost bytes_within: { bytes ≤ MAX_BYTES },
+    ghost words_within: { words ≤ MAX_WORDS },
+    ghost table_within: { table ≤ MAX_TABLE },
+    ghost result_within: { result ≤ MAX_RESULT },
+    ghost listing_within: { listing ≤ MAX_LISTING },
 }
 
-#[derive(Clone, Copy)]
-pub(crate) enum HeaderRead {
-    Good(Header),
-    Bad,
+impl<'a> Script<'a> {
+    // None: it is too long or short of its header or pool, passes a limit, or its steps are no multiple of nine bytes.
+    pub(crate) fn read(script: &'a [u8]) -> Option<Self> {
+        if script.len() > MAX_SCRIPT {
+            return None;
+        }
+        let (header, rest) = script.split_at_checked(HEADER_BYTES)?;
+        let (&[bytes, words, table, result, listing, pool], []) = header.as_chunks::<4>() else {
+            return None;
+        };
+        let (pool, rest) = rest.split_at_checked(u32::from_be_bytes(pool) as usize)?;
+        let (steps, []) = rest.as_chunks::<STEP_BYTES>() else {
+            return None;
+        };
+        Some(Script {
+            bytes: within(bytes, MAX_BYTES)?,
+            words: within(words, MAX_WORDS)?,
+            table: within(table, MAX_TABLE)?,
+            result: within(result, MAX_RESULT)?,
+            listing: within(listing, MAX_LISTING)?,
+            pool,
+            steps,
+        })
+    }
 }
 
-// A kind and two numbers.
-#[derive(Clone, Copy)]
-pub(crate) struct Step {
-    pub(crate) kind: u8,
-    pub(crate) a: u32,
-    pub(crate) b: u32,
-}
-
-fn wide(byte: u8) -> u32
-    ensures { result ≤ 255 }
+// A number that is at most `most`.
+fn within(number: [u8; 4], most: usize) -> Option<usize>
+    ensures { IfSome result (λ n. n ≤ most) }
 {
-    byte as u32
-}
-
-// The number at `at`.
-fn number_at(script: &[u8], at: usize) -> u32
-    requires { at + 4 ≤ length script.now }
-{
-    let b0 = wide(script[at]);
-    let b1 = wide(script[at + 1]);
-    let b2 = wide(script[at + 2]);
-    let b3 = wide(script[at + 3]);
-    b0 * 16777216 + b1 * 65536 + b2 * 256 + b3
-}
-
-// The header, or that the script is bad.
-pub(crate) fn read_header(script: &[u8]) -> HeaderRead
-    ensures { good_is_lendable (length script.now) result }
-{
-    if script.len() < HEADER_BYTES || script.len() > MAX_SCRIPT {
-        return HeaderRead::Bad;
-    }
-    let bytes = number_at(script, 0) as usize;
-    let words = number_at(script, 4) as usize;
-    let table = number_at(script, 8) as usize;
-    let result = number_at(script, 12) as usize;
-    let listing = number_at(script, 16) as usize;
-    let pool = number_at(script, 20) as usize;
-    if bytes > MAX_BYTES || words > MAX_WORDS || table > MAX_TABLE {
-        return HeaderRead::Bad;
-    }
-    if result > MAX_RESULT || listing > MAX_LISTING {
-        return HeaderRead::Bad;
-    }
-    let rest = script.len() - HEADER_BYTES;
-    if pool > rest || (rest - pool) % STEP_BYTES != 0 {
-        return HeaderRead::Bad;
-    }
-    HeaderRead::Good(Header {
-        bytes,
-        words,
-        table,
-        result,
-        listing,
-        pool,
-    })
-}
-
-// The step at `at`.
-pub(crate) fn step_at(steps: &[u8], at: usize) -> Step
-    requires { at + 9 ≤ length steps.now }
-{
-    Step {
-        kind: steps[at],
-        a: number_at(steps, at + 1),
-        b: number_at(steps, at + 5),
-    }
+    let n = u32::from_be_bytes(number) as usize;
+    if n <= most { Some(n) } else { None }
 }

@@ -11,7 +11,7 @@ use borrow.Author.Tests.{ltb-false}
 use Rattle.units.specs.Replies.{listing_full}
 use Rattle.units.specs.Reply.{Reply, accepted, refused}
 use Rattle.records.specs.Store.{Store}
-use Rattle.records.specs.Damage.{whole_soundness}
+use Rattle.records.specs.Damage.{Soundness, Sound, Damaged, whole_soundness}
 use Rattle.records.specs.Sections.{decode}
 use Rattle.records.specs.Damage.{Soundness}
 use Rattle.records.specs.Damage.{Sound, Damaged}
