@@ -76,14 +76,8 @@ impl<'a> TextSink<'a> {
     }
 
     // A number in decimal.
-    
-<<<<<<< /tmp/wm.2
-#[tactic(auto, using(crate::proofs::Sinks::then, crate::proofs::Digits::decimal_small, crate::proofs::Digits::decimal_more))]
-    pub(crate)
-=======
-pub
->>>>>>> /tmp/wm.3
- fn put_decimal(&mut self, value: u32)
+    #[tactic(auto, using(crate::proofs::Sinks::then, crate::proofs::Digits::decimal_small, crate::proofs::Digits::decimal_more))]
+    pub fn put_decimal(&mut self, value: u32)
         ensures { self.new ≡ added self.old (decimal value) }
     {
         if value < 10 {
