@@ -5,9 +5,8 @@ ghost use Rattle.tables.specs.MarkMap.{Covers};
 ghost use Rattle.tables.specs.TableWalk.{ComparedTo, earlier};
 
 use crate::map::MarkMap;
-use crate::section::{entry_of, is_backward, size_of};
 use records::kind;
-use settling::is_short;
+use settling::{entry_of, is_backward, is_short, size_of};
 use undamaged::UndamagedStore;
 use units::MarkId;
 
