@@ -1,23 +1,10 @@
--- What the functions of src/ speak of: what a call answers as a reply, the sections that op bytes and data are, and the kind of the last section. Assumes nothing.
-use Rattle.std.specs.Prelude.{ℕ, ◌*◌, ◌-◌, ◌^◌, ◌<◌, List, Bool, not, ◌&&◌, get_or, ltb, eqb, Result, Ok, Err}
-use Rattle.units.specs.Reply.{accepted, refused, refusal_reply}
-use Rattle.units.specs.declared.reply.Refusal.{Refusal}
-use Rattle.records.specs.declared.Assembler.{Assembler}
+-- What the functions of src/ speak of: the sections that op bytes and data are, and the kind of the last section. Assumes nothing.
+use Rattle.std.specs.Prelude.{ℕ, ◌*◌, ◌-◌, List, Bool, not, ◌&&◌, get_or, ltb, eqb}
 use Rattle.records.specs.Record.{ops_kind, data_kind}
 use Rattle.records.specs.Sections.{Section, ops, bytes}
-use Rattle.calls.specs.Calls.{BuiltReply, no_section_left}
+use Rattle.calls.specs.Calls.{no_section_left}
 use Rattle.adding.specs.declared.BytesKind.{BytesKind}
 use Rattle.adding.specs.declared.BytesKind.TheVariants.{Ops, Data}
-
--- the counts, or the refusal in document 01's numbers
-abbrev pub built_reply : Result Assembler Refusal → BuiltReply
-built_reply (Ok counts) = accepted counts
-built_reply (Err r) = refusal_reply r
-
--- a refusal whose passes are not cut in its number; no building call makes any
-abbrev pub Whole : BuiltReply → Type 0
-Whole (accepted counts) = Unit {0}
-Whole (refused n i k) = k < 2 ^ 24
 
 -- the kind word of a section that holds bytes
 abbrev pub kind_number : BytesKind → ℕ

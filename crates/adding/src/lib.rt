@@ -1,15 +1,16 @@
 // Document 01, module 2: what every building call comes to, by a state's number: 6, 4 and 5 are judged for the whole call, in this
 // order, and only then is anything written. A run of op bytes (document 02, request 1) is judged byte by byte.
+// Kept: a state and an answer are one number, since C has it so (building); by `?` from counts to a Result whose number one function makes, a mark and then a run of 8 took 1.12 of the time, data that begins a section 1.25.
 #![tactic(auto)]
 
 ghost use Rattle.std.specs.Prelude.{◌≡◌, ◌+◌, ◌*◌, ◌-◌, ◌^◌, ◌≤◌, ◌<◌, length, set};
 ghost use Rattle.records.specs.Record.{stored_section};
-ghost use Rattle.records.specs.Store.{words_per_section, store_of};
+ghost use Rattle.records.specs.Store.{words_per_section};
 ghost use Rattle.calls.specs.Calls.{bytes_over, no_section_left, add_reply, add_after};
 ghost use Rattle.calls.specs.Alone.{words_reply, words_after};
 ghost use Rattle.calls.specs.AtOnce.{at_once_reply, at_once_after};
 ghost use Rattle.numbers.specs.Numbers.{store_in, built_number};
-ghost use Rattle.adding.specs.Adding.{built_reply, Whole, kind_number, bytes_section, last_kind_is, ops_section_passes};
+ghost use Rattle.adding.specs.Adding.{kind_number, bytes_section, last_kind_is, ops_section_passes};
 
 use numbers::{counts_in, refusal_number, state_of};
 use records::{Assembler, check_last, kind, write_words};
@@ -36,7 +37,6 @@ impl From<BytesKind> for u32 {
 }
 
 // Adds op bytes or data, all or nothing: they extend a last section of their kind, else a section is added. Refusals: 6, 4, 5.
-#[tactic(auto, using(crate::proofs::Whole::add_whole))]
 pub fn add_bytes(
     state: u64,
     bytes: &mut [u8],
@@ -51,27 +51,12 @@ pub fn add_bytes(
     ensures words { words.new ≡ (add_after words_per_section (bytes_section kind added.now)
         (store_in state bytes.old words.old)).words }
 {
-    answer_number(with_bytes(counts_in(state), bytes, words, kind, added))
-}
-
-// The same from counts to counts.
-fn with_bytes(
-    store: Assembler,
-    bytes: &mut [u8],
-    words: &mut [u32],
-    kind: BytesKind,
-    added: &[u8],
-) -> Result<Assembler, Refusal>
-    ensures reply { built_reply result ≡ add_reply words_per_section (bytes_section kind added.now)
-        (store_of store bytes.old words.old) }
-    ensures bytes { bytes.new ≡ (add_after words_per_section (bytes_section kind added.now)
-        (store_of store bytes.old words.old)).bytes }
-    ensures words { words.new ≡ (add_after words_per_section (bytes_section kind added.now)
-        (store_of store bytes.old words.old)).words }
-{
-    check_last(store, bytes, words)?;
+    let store = counts_in(state);
+    if let Err(damage) = check_last(store, bytes, words) {
+        return refusal_number(Refusal::from(damage));
+    }
     if bytes_pass(store, bytes, added.len()) {
-        return Err(Refusal::BytesFull);
+        return refusal_number(Refusal::BytesFull);
     }
     let at = store.bytes;
     let end = at + (added.len() as u32);
@@ -80,17 +65,17 @@ fn with_bytes(
     if last_kind_is(sections, words, number) {
         write_bytes(bytes, at as usize, added);
         set_end(words, sections, end);
-        return Ok(Assembler {
+        return state_of(Assembler {
             bytes: end,
             sections,
         });
     }
     if no_section_left(sections, words) {
-        return Err(Refusal::SectionsFull);
+        return refusal_number(Refusal::SectionsFull);
     }
     write_bytes(bytes, at as usize, added);
     write_words(words, sections, number, at, end);
-    Ok(Assembler {
+    state_of(Assembler {
         bytes: end,
         sections: sections + 1,
     })
@@ -99,7 +84,6 @@ fn with_bytes(
 // Adds a run of op bytes that isn't empty, judged byte by byte, all or nothing. Refusals: 6, 4 (no room for one byte), 5, 4 (no room for
 // all). Judged here is the first byte: where it is accepted, no later one needs a section, and only the room for all is left to be judged.
 // An empty run is taken too, and judged as one that needs room for a byte: its caller answers it without this.
-#[tactic(auto, using(crate::proofs::Whole::run_whole))]
 pub fn add_run(state: u64, bytes: &mut [u8], words: &mut [u32], run: &[u8]) -> u64
     ensures reply { result ≡ built_number (at_once_reply words_per_section run.now
         (store_in state bytes.old words.old)) }
@@ -108,36 +92,21 @@ pub fn add_run(state: u64, bytes: &mut [u8], words: &mut [u32], run: &[u8]) -> u
     ensures words { words.new ≡ (at_once_after words_per_section run.now
         (store_in state bytes.old words.old)).words }
 {
-    answer_number(with_run(counts_in(state), bytes, words, run))
-}
-
-// The same from counts to counts.
-fn with_run(
-    store: Assembler,
-    bytes: &mut [u8],
-    words: &mut [u32],
-    run: &[u8],
-) -> Result<Assembler, Refusal>
-    ensures reply { built_reply result ≡ at_once_reply words_per_section run.now
-        (store_of store bytes.old words.old) }
-    ensures bytes { bytes.new ≡ (at_once_after words_per_section run.now
-        (store_of store bytes.old words.old)).bytes }
-    ensures words { words.new ≡ (at_once_after words_per_section run.now
-        (store_of store bytes.old words.old)).words }
-{
-    check_last(store, bytes, words)?;
+    let store = counts_in(state);
+    if let Err(damage) = check_last(store, bytes, words) {
+        return refusal_number(Refusal::from(damage));
+    }
     if bytes_pass(store, bytes, 1) {
-        return Err(Refusal::BytesFull);
+        return refusal_number(Refusal::BytesFull);
     }
     if ops_section_passes(store.sections, words) {
-        return Err(Refusal::SectionsFull);
+        return refusal_number(Refusal::SectionsFull);
     }
-    with_bytes(store, bytes, words, BytesKind::Ops, run)
+    add_bytes(state, bytes, words, BytesKind::Ops, run)
 }
 
 // Adds a section that nothing extends, a mark or a reference, given as its three words. Refusals: 6, 5.
-// The words come as numbers: a struct would go by way of memory.
-#[tactic(auto, using(crate::proofs::Whole::words_whole))]
+// Kept: the words come as numbers: a struct would go by way of memory, some 15 cycles (docs/PLAN.md, "Tried").
 pub fn add_section(
     state: u64,
     bytes: &[u8],
@@ -151,44 +120,19 @@ pub fn add_section(
     ensures words { words.new ≡ (words_after words_per_section (stored_section kind first second)
         (store_in state bytes.now words.old)).words }
 {
-    answer_number(with_section(counts_in(state), bytes, words, kind, first, second))
-}
-
-// The same from counts to counts.
-fn with_section(
-    store: Assembler,
-    bytes: &[u8],
-    words: &mut [u32],
-    kind: u32,
-    first: u32,
-    second: u32,
-) -> Result<Assembler, Refusal>
-    ensures reply { built_reply result ≡ words_reply words_per_section (stored_section kind first second)
-        (store_of store bytes.now words.old) }
-    ensures words { words.new ≡ (words_after words_per_section (stored_section kind first second)
-        (store_of store bytes.now words.old)).words }
-{
-    check_last(store, bytes, words)?;
+    let store = counts_in(state);
+    if let Err(damage) = check_last(store, bytes, words) {
+        return refusal_number(Refusal::from(damage));
+    }
     let sections = store.sections;
     if no_section_left(sections, words) {
-        return Err(Refusal::SectionsFull);
+        return refusal_number(Refusal::SectionsFull);
     }
     write_words(words, sections, kind, first, second);
-    Ok(Assembler {
+    state_of(Assembler {
         bytes: store.bytes,
         sections: sections + 1,
     })
-}
-
-// The number of what a call comes to.
-fn answer_number(answer: Result<Assembler, Refusal>) -> u64
-    requires { Whole (built_reply answer) }
-    ensures { result ≡ built_number (built_reply answer) }
-{
-    match answer {
-        Ok(counts) => state_of(counts),
-        Err(refusal) => refusal_number(refusal),
-    }
 }
 
 // 4: the stored bytes and those added pass slice or limit.

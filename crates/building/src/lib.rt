@@ -1,6 +1,7 @@
 // Document 01, module 2: the building calls by number. Each takes the state's number and is lent the byte slice and the slice of words.
 // It answers the next state, or a refusal with nothing changed. A call judges its own numbers (1, 2, 3), tries the short way, and has
 // every other case judged by `adding` (6, 4, 5; of a run of op bytes byte by byte).
+// Kept: a state and an answer are one number, and state and slices travel apart: C has it so (`sadrokki_push_mark` and the others), and a struct handed to a function that isn't inlined costs some 15 cycles (docs/PLAN.md, "Tried").
 #![tactic(auto)]
 
 mod bytes;

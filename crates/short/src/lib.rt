@@ -1,6 +1,7 @@
 // The short ways of the building calls: what most calls come to, found by a few tests and written at once, on the state's own number.
 // Each answers the next state, or None with nothing changed where its test says no: then the caller has every case judged (`adding`).
 // Nothing here goes by way of memory: every function is small enough to be inlined.
+// Kept: the state is one number beside its slices, as C has it (building); the Option costs nothing, since every call is inlined.
 #![tactic(auto)]
 
 mod last;
