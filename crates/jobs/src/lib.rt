@@ -86,8 +86,7 @@ fn write_reply(reply: Result<LaidOut, JobError>, res: &[u8], text: &mut [u8]) ->
 }
 
 // 15, or the calls in turn and then assembly.
-// Kept: the four slices as parameters, since a struct of them would stand only between this function and `run_job`, whose own are named
-// in docs/CLAIMS.md.
+// Kept: the four slices as parameters; a struct of them would stand only between this function and `run_job`, which keeps its own.
 fn make(
     job: &[u8],
     bytes: &mut [u8],

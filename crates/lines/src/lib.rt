@@ -25,6 +25,7 @@ impl<'a> TextSink<'a> {
     }
 
     // `.mark7:`
+    #[tactic(auto, using(crate::proofs::Sinks::then), unfolding(crate::specs::Lines::mark_line, opcodes::specs::Text::as_bytes))]
     pub fn put_mark_line(&mut self, mark: MarkId)
         ensures { self.new ≡ added self.old (mark_line mark.0) }
     {
@@ -46,6 +47,7 @@ impl<'a> TextSink<'a> {
     }
 
     // `  PUSH ` or `  RAW `
+    #[tactic(auto, unfolding(opcodes::specs::Text::as_bytes))]
     fn put_pushed(&mut self, pushed: bool)
         ensures { self.new ≡ added self.old (push_text pushed) }
     {
@@ -91,6 +93,7 @@ impl<'a> TextSink<'a> {
     }
 
     // `  PUSH .mark1` or `  RAW (.mark1 - .mark0):2`
+    #[tactic(auto, using(crate::proofs::Sinks::then), unfolding(crate::specs::Lines::reference_line, opcodes::specs::Text::as_bytes))]
     pub fn put_reference_line(&mut self, reference: AsmReference)
         ensures { self.new ≡ added self.old (reference_line reference) }
     {

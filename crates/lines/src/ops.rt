@@ -26,6 +26,7 @@ impl<'a> TextSink<'a> {
     }
 
     // The immediate of an opcode before the rest of its section, if it has one.
+    #[tactic(auto, using(crate::proofs::Turns::immediate_none, evm::proofs::Opcodes::push_bytes, evm::proofs::Opcodes::push_none))]
     fn put_operand(&mut self, opcode: u8, rest: &[u8])
         ensures { self.new ≡ added self.old (immediate_text (push_size opcode) (take (push_size opcode) rest.now)) }
     {

@@ -76,6 +76,7 @@ impl<'a> TextSink<'a> {
     }
 
     // A number in decimal.
+    #[tactic(auto, using(crate::proofs::Sinks::then, crate::proofs::Digits::decimal_small, crate::proofs::Digits::decimal_more))]
     pub fn put_decimal(&mut self, value: u32)
         ensures { self.new ≡ added self.old (decimal value) }
     {
@@ -89,6 +90,7 @@ impl<'a> TextSink<'a> {
 }
 
 // The character of a hex digit.
+#[tactic(auto, unfolding(crate::specs::Lines::hex_digit))]
 fn hex_digit(digit: u8) -> u8
     requires { digit < 16 }
     ensures { result ≡ hex_digit digit }

@@ -1,8 +1,8 @@
 -- A minimal push out of a number's bytes, highest first: the opcode before the bytes that follow the leading zeros. Assumes nothing.
-use Prim.Native.Nat.{ℕ, suc, ◌+◌, ◌-◌, ◌/◌, ◌%◌, ◌≤◌, ◌<◌}
+use Prim.Native.Nat.{ℕ, suc, ◌+◌, ◌-◌, ◌≤◌, ◌<◌}
 use native.Mathlib.Omega.{arith}
 use native.Mathlib.Nat.{add-zero, div-div-eq-div-mul}
-use mathlib.Core.Path.{◌≡◌, refl, sym, ◌∙◌, ap, subst}
+use mathlib.Core.Path.{◌≡◌, refl, sym, ◌∙◌, ap}
 use mathlib.Core.Bool.{Bool, true, false}
 use mathlib.Core.List.{List, [], ◌∷◌, ◌++◌}
 use mathlib.Core.Logic.{◌⊎◌, inl, inr}
@@ -15,9 +15,6 @@ use Rattle.units.specs.Numbers.{number, big_endian}
 use Rattle.units.proofs.BigEndian.{AllBytes, least_bytes_leading, big_endian_leading}
 use Rattle.evm.specs.Opcodes.{push_op}
 use Rattle.calls.specs.Calls.{minimal_push}
-use Rattle.records.specs.Store.{Store}
-use Rattle.records.specs.Sections.{Section}
-use Rattle.short.specs.Tried.{TriedSection}
 use Rattle.minimal.specs.Zeros.{LeadingZeros}
 
 -- a number's eight bytes

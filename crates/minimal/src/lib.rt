@@ -131,13 +131,7 @@ fn extend_shortest(
 {
     match digits.len() - zeros {
         0 => short::extend_op(state, bytes, words, evm::op::PUSH0),
-        1 => short::extend_instruction(
-            state,
-            bytes,
-            words,
-            evm::op::PUSH0 + 1,
-            &digits[zeros..],
-        ),
+        1 => short::extend_instruction(state, bytes, words, evm::op::PUSH0 + 1, &digits[zeros..]),
         _ => None,
     }
 }
@@ -191,7 +185,10 @@ fn scan_from(digits: &[u8], passed: usize) -> Scan
             return Scan { zeros: i, looked };
         }
     }
-    Scan { zeros: digits.len(), looked }
+    Scan {
+        zeros: digits.len(),
+        looked,
+    }
 }
 
 // The zeros passed over eight at a time, while more than eight bytes are left.

@@ -1,5 +1,5 @@
 // The tests for number 6: the whole store's, and the lesser one of a building call.
-ghost use Rattle.std.specs.Prelude.{◌≡◌, cond, ◌&&◌, ◌+◌, ◌*◌, ◌≤◌, ltb, eqb, length};
+ghost use Rattle.std.specs.Prelude.{◌≡◌, Some, false, cond, ◌&&◌, ◌+◌, ◌*◌, ◌≤◌, ltb, eqb, length};
 ghost use Rattle.records.specs.Store.{store_of, words_per_section, words_at, bad_counts};
 ghost use Rattle.records.specs.Record.{read_section, max_mark, mark_kind, direct_kind};
 ghost use Rattle.records.specs.Damage.{unreadable, is_span, spans_end, broken_reply, soundness_of, whole_soundness, last_soundness};
@@ -163,21 +163,18 @@ fn is_unreadable(section: StoredSection) -> bool
         | ((kind == kind::DIRECT) & (form::MAX_SIZE < second) & (second < form::PUSHED))
 }
 
-// The section that three words stand for, or damaged.
-fn read_held(section: StoredSection) -> Option<Held>
-    ensures { result ≡ held_read (read_section section) }
+// What three words that can be read hold of the bytes.
+fn held_in(section: StoredSection) -> Held
+    requires { unreadable (read_section section) ≡ false }
+    ensures { Some result ≡ held_read (read_section section) }
 {
-    if is_unreadable(section) {
+    if !is_span(section.kind) {
         return None;
     }
-    if is_span(section.kind) {
-        Some(Some(Span {
-            start: AsmBytesIdx(section.first),
-            end: AsmBytesIdx(section.second),
-        }))
-    } else {
-        Some(None)
-    }
+    Some(Span {
+        start: AsmBytesIdx(section.first),
+        end: AsmBytesIdx(section.second),
+    })
 }
 
 // What a section holds of the bytes.
@@ -240,9 +237,11 @@ fn check_sections(store: Assembler, bytes: &[u8], words: &[u32], spans: u32) -> 
 {
     let mut end: u32 = 0;
     for i in 0..store.sections {
-        let Some(held) = read_held(section_words(words, i as usize)) else {
+        let section = section_words(words, i as usize);
+        if is_unreadable(section) {
             return Err(Damage { section: i });
-        };
+        }
+        let held = held_in(section);
         if is_misplaced(held, end, i + 1 == spans, store.bytes) {
             return Err(Damage { section: i });
         }

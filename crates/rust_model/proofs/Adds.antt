@@ -10,7 +10,8 @@ use Rattle.records.specs.Sections.{Section, ops, bytes}
 use Rattle.calls.specs.Calls.{bytes_of}
 use Rattle.calls.specs.Lists.{after_last, added_to}
 use Rattle.calls.proofs.Added.{added_to_snoc}
-use Rattle.rust_model.specs.Building.{Span, StoredAsmSection, Assembler, Ops, Data}
+use Rattle.units.specs.declared.Span.{Span}
+use Rattle.rust_model.specs.Building.{StoredAsmSection, Assembler, Ops, Data}
 use Rattle.rust_model.specs.Sections.{AsmSection, from_stored, iter_sections}
 use Rattle.rust_model.specs.Sections as read
 use Rattle.rust_model.specs.Demand2.{seen, sections_of}
@@ -90,7 +91,7 @@ pub data Kind : Type 0 where
   as_ops : Kind
   as_data : Kind
 
-abbrev pub stored_as : Kind → Span → StoredAsmSection
+abbrev pub stored_as : Kind → Span ℕ → StoredAsmSection
 stored_as as_ops span = Ops span
 stored_as as_data span = Data span
 
@@ -98,23 +99,23 @@ abbrev pub section_as : Kind → List ℕ → Section
 section_as as_ops bs = ops bs
 section_as as_data bs = bytes bs
 
-seen_as : (k : Kind) (bs : List ℕ) (span : Span) → seen bs (from_stored (stored_as k span)) ≡ section_as k (slice span.start span.end bs)
+seen_as : (k : Kind) (bs : List ℕ) (span : Span ℕ) → seen bs (from_stored (stored_as k span)) ≡ section_as k (slice span.start span.end bs)
 seen_as as_ops bs span = refl
 seen_as as_data bs span = refl
 
-in_as : (k : Kind) (bs : List ℕ) (span : Span) → SpanIn bs span → SectionIn bs (from_stored (stored_as k span))
+in_as : (k : Kind) (bs : List ℕ) (span : Span ℕ) → SpanIn bs span → SectionIn bs (from_stored (stored_as k span))
 in_as as_ops bs span h = h
 in_as as_data bs span h = h
 
-as_in : (k : Kind) (bs : List ℕ) (span : Span) → SectionIn bs (from_stored (stored_as k span)) → SpanIn bs span
+as_in : (k : Kind) (bs : List ℕ) (span : Span ℕ) → SectionIn bs (from_stored (stored_as k span)) → SpanIn bs span
 as_in as_ops bs span h = h
 as_in as_data bs span h = h
 
-end_as : (k : Kind) (bs : List ℕ) (span : Span) → span.end ≡ length bs → AtEnd bs (from_stored (stored_as k span))
+end_as : (k : Kind) (bs : List ℕ) (span : Span ℕ) → span.end ≡ length bs → AtEnd bs (from_stored (stored_as k span))
 end_as as_ops bs span h = h
 end_as as_data bs span h = h
 
-as_end : (k : Kind) (bs : List ℕ) (span : Span) → AtEnd bs (from_stored (stored_as k span)) → span.end ≡ length bs
+as_end : (k : Kind) (bs : List ℕ) (span : Span ℕ) → AtEnd bs (from_stored (stored_as k span)) → span.end ≡ length bs
 as_end as_ops bs span h = h
 as_end as_data bs span h = h
 
@@ -127,7 +128,7 @@ join_as as_ops x y = refl
 join_as as_data x y = refl
 
 -- a last section of bytes ends at the end of the bytes
-pub last_end : (k : Kind) (a : Assembler) (before : List StoredAsmSection) (span : Span) → a.sections ≡ before ++ (stored_as k span ∷ []) → Kept a
+pub last_end : (k : Kind) (a : Assembler) (before : List StoredAsmSection) (span : Span ℕ) → a.sections ≡ before ++ (stored_as k span ∷ []) → Kept a
     → span.end ≡ length a.bytes
 last_end k a before span e h =
     let parts : iter_sections a ≡ map from_stored before ++ (from_stored (stored_as k span) ∷ []) = ap (map from_stored) e ∙ map-append from_stored before (stored_as k span ∷ []) in
@@ -144,7 +145,7 @@ module _ (k : Kind) (bs more : List ℕ) where
 
   module _ (before : List StoredAsmSection) (start : ℕ) (h : EveryIn bs (map from_stored before)) (starts : start ≤ length bs) where
     -- from the start to the end of the bytes
-    abbrev span : Span
+    abbrev span : Span ℕ
     span = record { start = start; end = length (bs ++ more) }
 
     -- the list: earlier sections hold what they held
@@ -174,7 +175,7 @@ module _ (k : Kind) (bs more : List ℕ) where
       }
 
   -- the last section, with the bytes at its end
-  pub adds_joined : (ss before : List StoredAsmSection) (last : Span) → ss ≡ before ++ (stored_as k last ∷ []) → last.end ≡ length bs
+  pub adds_joined : (ss before : List StoredAsmSection) (last : Span ℕ) → ss ≡ before ++ (stored_as k last ∷ []) → last.end ≡ length bs
       → Kept (record { bytes = bs; sections = ss }) → Adds (section_as k more) (record { bytes = bs; sections = ss }) (grown k bs more before last.start)
   adds_joined ss before last e l h =
       let split = every_before bs (map from_stored before) (from_stored (stored_as k last)) (subst (EveryIn bs) (ap (map from_stored) e ∙ map-append from_stored before (stored_as k last ∷ [])) h.spans) in

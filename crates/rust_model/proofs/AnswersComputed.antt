@@ -8,7 +8,6 @@ use native.Mathlib.Omega.{arith}
 use mathlib.Core.Path.{◌≡◌, refl}
 use mathlib.Core.Bool.{Bool, true, false}
 use mathlib.Core.List.{List, [], ◌∷◌, ◌++◌}
-use mathlib.Core.Option.{none, some}
 use lib.ListN.{replicate}
 use Rattle.units.specs.declared.RefSize.{RefSize}
 use Rattle.units.specs.declared.RefSize.TheVariants.{S1}
@@ -96,13 +95,13 @@ doubling_reserves len zero = omega arith
 doubling_reserves len (suc more) = omega arith
 
 -- mark 128: the table then has 256 entries
-rust_grown : (build : Build) → assemble build doubling none (record { bytes = []; sections = Mark 128 ∷ [] }) [] ≡ done (assembled (replicate 256 0) [])
+rust_grown : (build : Build) → assemble build doubling None (record { bytes = []; sections = Mark 128 ∷ [] }) [] ≡ done (assembled (replicate 256 0) [])
 unfolding assemble converge grow resize start_from walk_from iterate emit_from index index_mut add_u32 saturating_sub
 rust_grown build = refl
 
 -- hint 0, then marks 0 and 4: it grows to 4 entries, and then to 8
 rust_grown_twice : (build : Build)
-    → assemble build doubling (some 0) (record { bytes = []; sections = Mark 0 ∷ Mark 4 ∷ [] }) [] ≡ done (assembled (replicate 8 0) [])
+    → assemble build doubling (Some 0) (record { bytes = []; sections = Mark 0 ∷ Mark 4 ∷ [] }) [] ≡ done (assembled (replicate 8 0) [])
 unfolding assemble converge grow resize start_from walk_from iterate emit_from index index_mut add_u32 saturating_sub
 rust_grown_twice build = refl
 
@@ -116,12 +115,12 @@ abbrev pub far_store : Option RefSize → Assembler
 far_store size = record { bytes = replicate 254 0; sections = direct size ∷ Data (record { start = 0; end = 254 }) ∷ Mark 0 ∷ [] }
 
 -- the Rust's own answer to line 7: 61 01 01 and the data, the mark at 257
-pub rust_7 : (build : Build) → assemble build doubling none (far_store None) [] ≡ done (assembled (257 ∷ replicate 127 0) (0x61 ∷ 0x01 ∷ 0x01 ∷ replicate 254 0))
+pub rust_7 : (build : Build) → assemble build doubling None (far_store None) [] ≡ done (assembled (257 ∷ replicate 127 0) (0x61 ∷ 0x01 ∷ 0x01 ∷ replicate 254 0))
 unfolding assemble converge grow resize start_from walk_from iterate emit_from emit_ref emit_bytes index index_mut add_u32 sub_u32 range bytes_to_hold le_bytes saturating_sub
 rust_7 build = refl
 
 -- and to line 8: section 0
-pub rust_8 : (build : Build) → assemble build doubling none (far_store (Some S1)) [] ≡ done (too_small_set_size 0)
+pub rust_8 : (build : Build) → assemble build doubling None (far_store (Some S1)) [] ≡ done (too_small_set_size 0)
 unfolding assemble converge grow resize start_from walk_from iterate index index_mut add_u32 sub_u32 bytes_to_hold saturating_sub
 rust_8 build = refl
 
@@ -148,7 +147,7 @@ show_store =
 abbrev pub show_code : List ℕ
 show_code = 0x5b ∷ 0x60 ∷ 0x04 ∷ 0x56 ∷ 0x5b ∷ 0xaa ∷ 0xbb ∷ 0x00 ∷ 0x04 ∷ []
 
-pub rust_12 : (build : Build) → assemble build doubling none show_store [] ≡ done (assembled (0 ∷ 4 ∷ replicate 126 0) show_code)
+pub rust_12 : (build : Build) → assemble build doubling None show_store [] ≡ done (assembled (0 ∷ 4 ∷ replicate 126 0) show_code)
 unfolding assemble converge grow resize start_from walk_from iterate emit_from emit_ref emit_bytes index index_mut add_u32 sub_u32 checked_sub range bytes_to_hold le_bytes saturating_sub
 rust_12 build = refl
 
@@ -183,7 +182,7 @@ abbrev pub loop_code : List ℕ
 loop_code = 0x5b ∷ 0x5f ∷ 0x50 ∷ 0x5f ∷ 0x56 ∷ []
 
 -- the Rust's own answer
-pub rust_loop : (build : Build) → assemble build doubling none loop_store [] ≡ done (assembled (replicate 128 0) loop_code)
+pub rust_loop : (build : Build) → assemble build doubling None loop_store [] ≡ done (assembled (replicate 128 0) loop_code)
 unfolding assemble converge grow resize start_from walk_from iterate emit_from emit_ref emit_bytes index index_mut add_u32 sub_u32 range bytes_to_hold le_bytes saturating_sub
 rust_loop build = refl
 
@@ -207,7 +206,7 @@ behind_store =
           ∷ [];
     }
 
-pub rust_behind : (build : Build) → assemble build doubling none behind_store [] ≡ done (too_small_set_size 4)
+pub rust_behind : (build : Build) → assemble build doubling None behind_store [] ≡ done (too_small_set_size 4)
 unfolding assemble converge grow resize start_from walk_from iterate index index_mut add_u32 sub_u32 bytes_to_hold saturating_sub
 rust_behind build = refl
 
@@ -215,13 +214,13 @@ rust_behind build = refl
 
 -- mark 0, op 5b, mark 0: the entry moves twice in each of 1,024 walks
 rust_never_settles : (build : Build)
-    → assemble build doubling none (record { bytes = 0x5b ∷ []; sections = Mark 0 ∷ Ops (record { start = 0; end = 1 }) ∷ Mark 0 ∷ [] }) [] ≡ panic
+    → assemble build doubling None (record { bytes = 0x5b ∷ []; sections = Mark 0 ∷ Ops (record { start = 0; end = 1 }) ∷ Mark 0 ∷ [] }) [] ≡ panic
 unfolding assemble converge grow resize start_from walk_from iterate index index_mut add_u32 sub_u32 saturating_sub
 rust_never_settles build = refl
 
 -- mark 1, op 5b, mark 1, then raw ref 0 of size 1, 254 bytes, mark 0 at 256: a too small set size, although mark 1 isn't named
 rust_apart : (build : Build)
-    → assemble build doubling none
+    → assemble build doubling None
     (record {
       bytes = 0x5b ∷ replicate 254 0;
       sections =

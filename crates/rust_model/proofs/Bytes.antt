@@ -10,7 +10,8 @@ use Rattle.records.specs.Sections.{Section, mark, ops, bytes, reference}
 use Rattle.calls.specs.Lists.{added_after, added_to}
 use Rattle.calls.proofs.OpBytesAnswers.{ops_next}
 use Rattle.rust_model.specs.Run.{Run, done, panic, and_then, Build, len_idx, pushed}
-use Rattle.rust_model.specs.Building.{Span, StoredAsmSection, Ops, Data, Assembler, Last, extend_ops, new_ops, op_byte_after, op_byte, op_bytes, longer_data, extend_data, new_data, data_after, pushed_data}
+use Rattle.units.specs.declared.Span.{Span}
+use Rattle.rust_model.specs.Building.{StoredAsmSection, Ops, Data, Assembler, Last, extend_ops, new_ops, op_byte_after, op_byte, op_bytes, longer_data, extend_data, new_data, data_after, pushed_data}
 use Rattle.rust_model.specs.Demand2.{sections_of}
 use Rattle.rust_model.proofs.Runs.{done_inj, and_then_done, cond_done, len_idx_done, pushed_done}
 use Rattle.rust_model.proofs.Adds.{Kept, Adds, as_ops, as_data, last_end, adds_new, adds_joined}
@@ -27,7 +28,7 @@ grown_done bs b f a' r =
     ap (λ (x : List ℕ). f x (length x)) (pushed_done bs b r₁.0 r₁.1) ∙ ap (f r₁.0) (len_idx_done r₁.0 r₂.0 r₂.1) ∙ done_inj r₂.2
 
 -- it joins a last Ops section
-extend_ops_lem : (a a' : Assembler) (before : List StoredAsmSection) (span : Span) (b : ℕ) → a.sections ≡ before ++ (Ops span ∷ []) → Kept a
+extend_ops_lem : (a a' : Assembler) (before : List StoredAsmSection) (span : Span ℕ) (b : ℕ) → a.sections ≡ before ++ (Ops span ∷ []) → Kept a
     → extend_ops before span a.bytes b ≡ done a' → Adds (ops (b ∷ [])) a a'
 unfolding extend_ops
 extend_ops_lem a a' before span b e k r =
@@ -93,7 +94,7 @@ op_bytes_lem a a' b (c ∷ cs) k r =
 -- ---- data
 
 -- they join a last Data section
-longer_data_lem : (a a' : Assembler) (before : List StoredAsmSection) (span : Span) (more : List ℕ) → a.sections ≡ before ++ (Data span ∷ []) → Kept a
+longer_data_lem : (a a' : Assembler) (before : List StoredAsmSection) (span : Span ℕ) (more : List ℕ) → a.sections ≡ before ++ (Data span ∷ []) → Kept a
     → longer_data before span a.bytes more ≡ done a' → Adds (bytes more) a a'
 unfolding longer_data
 longer_data_lem a a' before span more e k r =
@@ -103,7 +104,7 @@ longer_data_lem a a' before span more e k r =
     subst (Adds (bytes more) a) (ap new (len_idx_done (a.bytes ++ more) r₁.0 r₁.1) ∙ done_inj r₁.2) (adds_joined as_data a.bytes more a.sections before span e at k)
 
 -- with debug assertions or without
-extend_data_lem : (build : Build) (a a' : Assembler) (before : List StoredAsmSection) (span : Span) (more : List ℕ) → a.sections ≡ before ++ (Data span ∷ []) → Kept a
+extend_data_lem : (build : Build) (a a' : Assembler) (before : List StoredAsmSection) (span : Span ℕ) (more : List ℕ) → a.sections ≡ before ++ (Data span ∷ []) → Kept a
     → extend_data build before span a.bytes more ≡ done a' → Adds (bytes more) a a'
 unfolding extend_data
 extend_data_lem build a a' before span more e k r = longer_data_lem a a' before span more e k (asserted build.debug_assertions r)

@@ -15,7 +15,8 @@ use Rattle.records.specs.Sections.{ops}
 use Rattle.calls.specs.Calls.{Push, push_mark, push_op_byte, push_swap, push_dup, push_exchange, push_minimal_u256, push_minimal_u64, push_minimal_u32, push_data, push_reference, has_bad_depth, has_bad_word, exchange_ops, minimal_push, added, bytes_of}
 use Rattle.evm.specs.Opcodes as evm
 use Rattle.rust_model.specs.Run.{Run, done, and_then, Build, len_idx, pushed}
-use Rattle.rust_model.specs.Building.{Span, StoredAsmSection, Assembler, Last, extend_ops, new_ops, op_byte_after, op_byte, op_bytes, last_swap_arm, swap_op, last_dup_arm, dup_op, swap, dup, exchange, minimal, u256, longer_data, extend_data, new_data, data_after, pushed_data, push_call}
+use Rattle.units.specs.declared.Span.{Span}
+use Rattle.rust_model.specs.Building.{StoredAsmSection, Assembler, Last, extend_ops, new_ops, op_byte_after, op_byte, op_bytes, last_swap_arm, swap_op, last_dup_arm, dup_op, swap, dup, exchange, minimal, u256, longer_data, extend_data, new_data, data_after, pushed_data, push_call}
 use Rattle.rust_model.proofs.Steps.{max_index, len_done, push_done}
 use Rattle.rust_model.proofs.Adds.{Kept, Adds, as_ops, as_data, last_end}
 use Rattle.rust_model.proofs.Last.{LastIs, is_ops_lem, is_data, is_other, last_is}
@@ -37,7 +38,7 @@ grown_comes bs b f h =
     rw (push_done bs b (omega arith), len_done (bs ++ (b ∷ [])) short) (_, refl)
 
 -- it joins a last Ops section: the assertion holds
-extend_ops_comes : (a : Assembler) (before : List StoredAsmSection) (span : Span) (b : ℕ) → span.end ≡ length a.bytes → length a.bytes + 1 ≤ max_index
+extend_ops_comes : (a : Assembler) (before : List StoredAsmSection) (span : Span ℕ) (b : ℕ) → span.end ≡ length a.bytes → length a.bytes + 1 ≤ max_index
     → Comes (extend_ops before span a.bytes b)
 unfolding extend_ops
 extend_ops_comes a before span b e h = rw (len_done a.bytes (omega arith), eq-eqb span.end (length a.bytes) e) (grown_comes a.bytes b _ h)
@@ -124,13 +125,13 @@ exchange_same a n m d nh mh = go (dichotomy (eqb n 0)) (dichotomy (eqb m 0))
 
 -- ---- data
 
-longer_data_comes : (a : Assembler) (before : List StoredAsmSection) (span : Span) (more : List ℕ) → length a.bytes + length more ≤ max_index
+longer_data_comes : (a : Assembler) (before : List StoredAsmSection) (span : Span ℕ) (more : List ℕ) → length a.bytes + length more ≤ max_index
     → Comes (longer_data before span a.bytes more)
 unfolding longer_data
 longer_data_comes a before span more h = rw (len_done (a.bytes ++ more) (omega (arith, length-append a.bytes more))) (_, refl)
 
 -- the debug assertion, where it is there, holds
-extend_data_comes : (build : Build) (a : Assembler) (before : List StoredAsmSection) (span : Span) (more : List ℕ) → span.end ≡ length a.bytes
+extend_data_comes : (build : Build) (a : Assembler) (before : List StoredAsmSection) (span : Span ℕ) (more : List ℕ) → span.end ≡ length a.bytes
     → length a.bytes + length more ≤ max_index → Comes (extend_data build before span a.bytes more)
 unfolding extend_data
 extend_data_comes build a before span more e h = rw (eq-eqb span.end (length a.bytes) e) (asserted build.debug_assertions)

@@ -6,7 +6,6 @@ use native.Mathlib.Omega.{arith}
 use mathlib.Core.Path.{◌≡◌, refl, sym, ap, ◌∙◌, subst}
 use mathlib.Core.Bool.{Bool, true, false, not, ◌&&◌, and-eq-true_iff as and-true}
 use mathlib.Core.List.{List, [], ◌∷◌, ◌++◌}
-use mathlib.Core.Option.{none}
 use lib.Dec.{leb}
 use lib.ListN.{length, drop, replicate}
 use borrow.Author.Tests.{leb-true, not-true}
@@ -121,8 +120,8 @@ far_assembles size = assembles (far_store size) 1 refl refl refl
 abbrev far_ours : Option RefSize → List ℕ → Outcome
 far_ours size result = assembly words_per_section (built far_bytes far_words (far size 254)) 1 result 0
 
-far_same : (build : Build) (size : Option RefSize) (result : List ℕ) → SameAssembly (far_store size) [] result 0 (far_ours size result) (assemble build doubling none (far_store size) [])
-far_same build size result = (demand_2 build far_bytes far_words (far size 254) (far_store size) (far_builds build size)).assembly 1 (far_assembles size) doubling doubling_reserves none [] result 0
+far_same : (build : Build) (size : Option RefSize) (result : List ℕ) → SameAssembly (far_store size) [] result 0 (far_ours size result) (assemble build doubling None (far_store size) [])
+far_same build size result = (demand_2 build far_bytes far_words (far size 254) (far_store size) (far_builds build size)).assembly 1 (far_assembles size) doubling doubling_reserves None [] result 0
 
 -- the code that was appended to nothing, as ours wrote it
 carried : (a : Assembler) (table code result : List ℕ) (ours : Outcome) → SameAssembly a [] result 0 ours (done (assembled table code)) → length code ≤ length result
@@ -188,7 +187,7 @@ pub line_12 : (result : List ℕ) → 9 ≤ length result
     × (entry (show_ours result).table 0 ≡ 0) × (entry (show_ours result).table 1 ≡ 4)
 unfolding placed index
 line_12 result fits =
-    let same = (demand_2 release show_bytes show_words show_calls show_store (show_builds release)).assembly 2 show_assembles doubling doubling_reserves none [] result 0 in
+    let same = (demand_2 release show_bytes show_words show_calls show_store (show_builds release)).assembly 2 show_assembles doubling doubling_reserves None [] result 0 in
     let q = carried show_store (0 ∷ 4 ∷ replicate 126 0) show_code result (show_ours result) (subst (SameAssembly show_store [] result 0 (show_ours result)) (rust_12 release) same) fits in
     (q.0, q.1, q.2, sym (done_inj (q.3 0 refl)), sym (done_inj (q.3 1 refl)))
 
@@ -234,6 +233,6 @@ loop_ours result = assembly words_per_section (built loop_bytes loop_words loop_
 pub loop_code_lem : (result : List ℕ) → 5 ≤ length result
     → (passes : ℕ) × ((loop_ours result).reply ≡ written 5 passes) × ((loop_ours result).result ≡ over result 0 loop_code)
 loop_code_lem result fits =
-    let same = (demand_2 release loop_bytes loop_words loop_calls loop_store (loop_builds release)).assembly 1 loop_assembles doubling doubling_reserves none [] result 0 in
+    let same = (demand_2 release loop_bytes loop_words loop_calls loop_store (loop_builds release)).assembly 1 loop_assembles doubling doubling_reserves None [] result 0 in
     let q = carried loop_store (replicate 128 0) loop_code result (loop_ours result) (subst (SameAssembly loop_store [] result 0 (loop_ours result)) (rust_loop release) same) fits in
     (q.0, q.1, q.2)

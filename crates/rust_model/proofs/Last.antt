@@ -5,15 +5,16 @@ use mathlib.Core.List.{List, [], ◌∷◌, ◌++◌, append_assoc}
 use Rattle.records.specs.Sections.{Section}
 use Rattle.calls.specs.Lists.{after_last, added_after, added_to}
 use Rattle.calls.proofs.Added.{added_to_snoc}
-use Rattle.rust_model.specs.Building.{Span, StoredAsmSection, Mark, Ops, Data, DirectMarkRef, UnsizedPushedDeltaRef, Size1PushedDeltaRef, Size2PushedDeltaRef, Size3PushedDeltaRef, Size4PushedDeltaRef, UnsizedRawDeltaRef, Size1RawDeltaRef, Size2RawDeltaRef, Size3RawDeltaRef, Size4RawDeltaRef, Last, last_ops, last_data, other, alone, behind, last_of, last_mut}
+use Rattle.units.specs.declared.Span.{Span}
+use Rattle.rust_model.specs.Building.{StoredAsmSection, Mark, Ops, Data, DirectMarkRef, UnsizedPushedDeltaRef, Size1PushedDeltaRef, Size2PushedDeltaRef, Size3PushedDeltaRef, Size4PushedDeltaRef, UnsizedRawDeltaRef, Size1RawDeltaRef, Size2RawDeltaRef, Size3RawDeltaRef, Size4RawDeltaRef, Last, last_ops, last_data, other, alone, behind, last_of, last_mut}
 use Rattle.rust_model.specs.Sections.{from_stored}
 use Rattle.rust_model.specs.Demand2.{seen}
 use Rattle.rust_model.proofs.Adds.{list_of, list_snoc}
 
 -- what `last_mut` tells of a list: its last section, or that nothing joins its last section
 pub data LastIs (ss : List StoredAsmSection) : Last → Type 0 where
-  is_ops_lem : (before : List StoredAsmSection) (span : Span) → ss ≡ before ++ (Ops span ∷ []) → LastIs ss (last_ops before span)
-  is_data : (before : List StoredAsmSection) (span : Span) → ss ≡ before ++ (Data span ∷ []) → LastIs ss (last_data before span)
+  is_ops_lem : (before : List StoredAsmSection) (span : Span ℕ) → ss ≡ before ++ (Ops span ∷ []) → LastIs ss (last_ops before span)
+  is_data : (before : List StoredAsmSection) (span : Span ℕ) → ss ≡ before ++ (Data span ∷ []) → LastIs ss (last_data before span)
   is_other : ((bs : List ℕ) (x : Section) → added_to (list_of bs ss) x ≡ list_of bs ss ++ (x ∷ [])) → LastIs ss other
 
 -- of one section

@@ -1,11 +1,11 @@
 -- `converge_mark_offsets` against the settling: by a table of the same length the two are the same, step by step. Assumes nothing.
+use Rattle.std.specs.Prelude.{Option, Some, None}
 use Prim.Native.Nat.{ℕ, zero, suc, ◌+◌, ◌*◌, ◌<◌}
 use native.Mathlib.Nat.{add-zero}
 use native.Mathlib.Omega.{arith}
 use mathlib.Core.Path.{◌≡◌, refl, sym, ap, ◌∙◌, subst}
 use mathlib.Core.Bool.{Bool, true, false, cond, not, ◌||◌}
 use mathlib.Core.List.{List, [], ◌∷◌, map}
-use mathlib.Core.Option.{Option, none, some}
 use lib.Dec.{eqb}
 use lib.ListN.{length, set, replicate, length-set, length-replicate}
 use lib.Seq.{slice}
@@ -108,7 +108,7 @@ module _ (build : Build) (bs : List ℕ) where
 
   -- a section that is passed
   walk_step : (s : AsmSection) (rs : List AsmSection) (i current : ℕ) (w w' : Walk) (n : ℕ) → walk_mark s current w ≡ done w'
-      → compiled_size build w'.table s ≡ done (some n) → current + n < 4294967296 → rust.walk_from build (s ∷ rs) i current w ≡ rust.walk_from build rs (suc i) (current + n) w'
+      → compiled_size build w'.table s ≡ done (Some n) → current + n < 4294967296 → rust.walk_from build (s ∷ rs) i current w ≡ rust.walk_from build rs (suc i) (current + n) w'
   unfolding rust.walk_from
   walk_step s rs i current w w' n e q h =
       ap (λ (x : Run Walk). and_then x (λ w''. and_then (compiled_size build w''.table s) (λ size. or_too_small i size (λ n'. and_then (add_u32 build current n') (λ current'. rust.walk_from build rs (suc i) current' w''))))) e
@@ -116,7 +116,7 @@ module _ (build : Build) (bs : List ℕ) where
       ∙ ap (λ (x : Run ℕ). and_then x (λ current'. rust.walk_from build rs (suc i) current' w')) (add_done build current n h)
 
   -- a set size that is too small
-  walk_left : (r : AsmReference) (rs : List AsmSection) (i current : ℕ) (w : Walk) → compiled_size build w.table (MarkRef r) ≡ done none
+  walk_left : (r : AsmReference) (rs : List AsmSection) (i current : ℕ) (w : Walk) → compiled_size build w.table (MarkRef r) ≡ done None
       → rust.walk_from build (MarkRef r ∷ rs) i current w ≡ done (too_small i)
   unfolding rust.walk_from
   walk_left r rs i current w q =
@@ -140,7 +140,7 @@ module _ (build : Build) (bs : List ℕ) where
 
   -- a reference's size
   size_done : (r : AsmReference) (t : List ℕ) → MarksIn (length t) r.mark_ref
-      → compiled_size build t (MarkRef r) ≡ done (cond (too_narrow r (value_by (entry t) r.mark_ref)) none (some (size r (value_by (entry t) r.mark_ref))))
+      → compiled_size build t (MarkRef r) ≡ done (cond (too_narrow r (value_by (entry t) r.mark_ref)) None (Some (size r (value_by (entry t) r.mark_ref))))
   unfolding too_narrow size
   size_done r t h =
       ap (λ (x : Run ℕ). and_then x (λ v. done (ref_size_for r.set_size r.pushed v (bytes_to_hold v)))) (value_done t r.mark_ref h)
@@ -163,17 +163,17 @@ module _ (build : Build) (bs : List ℕ) where
       ∙ walk_same rs (suc i) current moved' t' j.1 (subst (λ (n : ℕ). EveryMap n rs) (sym (long_set t id current (unlike t id current))) m.1) (omega arith)
   walk_same (Ops span ∷ rs) i current moved t j m h =
       let n : ℕ = length (slice span.start span.end bs) in
-      walk_step (Ops span) rs i current _ _ n refl (ap (λ (x : Run ℕ). and_then x (λ n'. done (some n'))) (span_done build bs span j.0)) (omega arith)
+      walk_step (Ops span) rs i current _ _ n refl (ap (λ (x : Run ℕ). and_then x (λ n'. done (Some n'))) (span_done build bs span j.0)) (omega arith)
       ∙ walk_same rs (suc i) (current + n) moved t j.1 m.1 (omega arith)
   walk_same (Data span ∷ rs) i current moved t j m h =
       let n : ℕ = length (slice span.start span.end bs) in
-      walk_step (Data span) rs i current _ _ n refl (ap (λ (x : Run ℕ). and_then x (λ n'. done (some n'))) (span_done build bs span j.0)) (omega arith)
+      walk_step (Data span) rs i current _ _ n refl (ap (λ (x : Run ℕ). and_then x (λ n'. done (Some n'))) (span_done build bs span j.0)) (omega arith)
       ∙ walk_same rs (suc i) (current + n) moved t j.1 m.1 (omega arith)
   walk_same (MarkRef r ∷ rs) i current moved t j m h =
       let v : ℕ = value_by (entry t) r.mark_ref in
       go v (too_narrow r v) (size_done r t m.0) (walk_same rs (suc i) (current + size r v) moved t j.1 m.1 (omega (arith, size_small r v)))
     where
-      go : (v : ℕ) (q : Bool) → compiled_size build t (MarkRef r) ≡ done (cond q none (some (size r v)))
+      go : (v : ℕ) (q : Bool) → compiled_size build t (MarkRef r) ≡ done (cond q None (Some (size r v)))
           → rust.walk_from build rs (suc i) (current + size r v) (record { converged = not moved; table = t }) ≡ done (rust_walked (walk_from (seen_all bs rs) (suc i) (current + size r v) moved t))
           → rust.walk_from build (MarkRef r ∷ rs) i current (record { converged = not moved; table = t })
           ≡ done (rust_walked (cond q (left_at i) (walk_from (seen_all bs rs) (suc i) (current + size r v) moved t)))

@@ -1,12 +1,11 @@
 -- The Rust's lines of an Ops section are the listing's: it goes by an index, the walk by what remains. Assumes nothing.
-use Rattle.std.specs.Prelude.{None, Some}
+use Rattle.std.specs.Prelude.{None, Some, Option}
 use Prim.Native.Nat.{ℕ, zero, suc, ◌+◌, ◌-◌, ◌≤◌, ◌<◌}
 use native.Mathlib.Omega.{arith}
 use mathlib.Core.Path.{◌≡◌, refl, sym, ap, ◌∙◌}
-use mathlib.Core.Bool.{Bool, true, false, cond, ◌&&◌}
+use mathlib.Core.Bool.{Bool, true, false, cond}
 use mathlib.Core.List.{List, [], ◌++◌, append_assoc, append-nil}
-use mathlib.Core.Option.{Option, none, some}
-use lib.Dec.{ltb, leb}
+use lib.Dec.{ltb}
 use lib.ListN.{length, get_or, take}
 use lib.Seq.{slice, take-length}
 use borrow.Author.Tests.{ltb-true, ltb-false, lt-ltb, le-ltb}
@@ -22,18 +21,9 @@ use Rattle.rust_model.proofs.Text.{hex_same}
 
 -- ---- the push size
 
--- the Rust's option as evm has it
-abbrev as_size : Option ℕ → Option ℕ
-as_size none = None
-as_size (some n) = Some n
-
-push_size_same : (op : ℕ) → as_size (rust.push_size op) ≡ op_push_size op
+push_size_same : (op : ℕ) → rust.push_size op ≡ op_push_size op
 unfolding rust.push_size op_push_size
-push_size_same op = go (leb 0x60 op && leb op 0x7f)
-  where
-    go : (b : Bool) → as_size (cond b (some (op - 0x60 + 1)) none) ≡ cond b (Some (op - 0x60 + 1)) None
-    go true = refl
-    go false = refl
+push_size_same op = refl
 
 -- ---- one instruction at i
 
@@ -105,9 +95,9 @@ module _ (ops : List ℕ) (i : ℕ) (h : i < length ops) where
 
 -- one turn of it; `next` is the loop from an index on
 turn : (ops : List ℕ) (i : ℕ) → i < length ops → (next : ℕ → List ℕ) → ((j : ℕ) → i < j → next j ≡ rest_lines ops j)
-    → (o : Option ℕ) → as_size o ≡ op_push_size (get_or ops i 0) → rust.fmt_op ops i (get_or ops i 0) o next ≡ rest_lines ops i
-turn ops i h next f none e = rw (f (i + 1) (omega arith)) (line_none ops i h (push_none (get_or ops i 0) (sym e)))
-turn ops i h next f (some n) e =
+    → (o : Option ℕ) → o ≡ op_push_size (get_or ops i 0) → rust.fmt_op ops i (get_or ops i 0) o next ≡ rest_lines ops i
+turn ops i h next f None e = rw (f (i + 1) (omega arith)) (line_none ops i h (push_none (get_or ops i 0) (sym e)))
+turn ops i h next f (Some n) e =
     let p : (push_size (get_or ops i 0) ≡ n) × (0 < n) = push_bytes (get_or ops i 0) n (sym e) in
     rw (f (rust.imm_end ops i n) (omega arith)) (line_some ops i h n p.0 p.1)
 

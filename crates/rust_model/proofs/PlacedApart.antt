@@ -1,12 +1,12 @@
 -- Where the Rust answers code, no mark has bytes between its placings: its last walk moved no mark, so each placing of a mark stands at the
 -- mark's entry, and with bytes between them two placings would stand apart. Assumes nothing.
+use Rattle.std.specs.Prelude.{Option, Some, None}
 use Prim.Native.Nat.{ℕ, zero, suc, ◌+◌, ◌≤◌, ◌<◌}
 use native.Mathlib.Nat.{add-zero, le_refl}
 use native.Mathlib.Omega.{arith}
 use mathlib.Core.Path.{◌≡◌, refl, sym, ap, ◌∙◌, subst}
 use mathlib.Core.Bool.{Bool, true, false, cond, false≢true}
 use mathlib.Core.List.{List, [], ◌∷◌}
-use mathlib.Core.Option.{Option, none, some}
 use lib.Dec.{ltb, eqb}
 use lib.ListN.{length, get_or, replicate}
 use lib.Seq.{slice}
@@ -22,7 +22,8 @@ use Rattle.layout.proofs.WidthRule.{width_rule}
 use Rattle.layout.proofs.Apart.{least_before, ApartBySums, apart_sums}
 use Rattle.settling.proofs.Sections.{size_small}
 use Rattle.rust_model.specs.Run.{Run, done, and_then, Build, add_u32, sub_u32, index, index_mut}
-use Rattle.rust_model.specs.Building.{Span, Assembler}
+use Rattle.units.specs.declared.Span.{Span}
+use Rattle.rust_model.specs.Building.{Assembler}
 use Rattle.rust_model.specs.Sections.{AsmSection, Mark, Ops, Data, MarkRef, iter_sections, bytes_to_hold, walk_value, ref_size_for, compiled_size}
 use Rattle.rust_model.specs.Assemble.{Reserve, start_from, Walk, Walked, walked, too_small, move_mark, walk_mark, or_too_small, walk_from, Converged, ok, ref_has_too_small_set_size, decide, after_walk, iterate, max_iterations, converge, assembled, emission, mark_count, assemble}
 use Rattle.rust_model.specs.Demand2.{sections_of, CodeTogether}
@@ -85,11 +86,11 @@ still_together ss t e h i l = go (apart_at ss i) refl
 -- ---- a walk of the Rust that moves no mark
 
 -- the width of a reference that isn't too small: by some value, the one that module 1 says
-ref_some : (r : AsmReference) (v n : ℕ) → ref_size_for r.set_size r.pushed v (bytes_to_hold v) ≡ some n → size r v ≡ n
+ref_some : (r : AsmReference) (v n : ℕ) → ref_size_for r.set_size r.pushed v (bytes_to_hold v) ≡ Some n → size r v ≡ n
 unfolding size
 ref_some r v n e = go (narrow r.set_size v) (sym (ref_size_same r.set_size r.pushed v) ∙ e)
   where
-    go : (b : Bool) → cond b none (some (width r.set_size r.pushed v)) ≡ some n → width r.set_size r.pushed v ≡ n
+    go : (b : Bool) → cond b None (Some (width r.set_size r.pushed v)) ≡ Some n → width r.set_size r.pushed v ≡ n
     go true q = let z : ◌≡◌ {A = ℕ} 0 1 = cc in absurd (omega arith)
     go false q = cc
 
@@ -99,7 +100,7 @@ module _ (build : Build) (bs : List ℕ) where
     next : Walk
     marked : walk_mark s current w ≡ done next
     width : ℕ
-    sized : compiled_size build next.table s ≡ done (some width)
+    sized : compiled_size build next.table s ≡ done (Some width)
     sum : ℕ
     added : add_u32 build current width ≡ done sum
     later : walk_from build rs (suc i) sum next ≡ done (walked w')
@@ -113,8 +114,8 @@ module _ (build : Build) (bs : List ℕ) where
     where
       go : (next : Walk) → walk_mark s current w ≡ done next → (o : Option ℕ) → compiled_size build next.table s ≡ done o
           → or_too_small i o (λ n. and_then (add_u32 build current n) (λ current'. walk_from build rs (suc i) current' next)) ≡ done (walked w') → Passed s rs i current w w'
-      go next m none e q = let z : ◌≡◌ {A = ℕ} 0 1 = cc in absurd (omega arith)
-      go next m (some n) e q =
+      go next m None e q = let z : ◌≡◌ {A = ℕ} 0 1 = cc in absurd (omega arith)
+      go next m (Some n) e q =
           let c = and_then_done (add_u32 build current n) _ (walked w') q in
           record { next = next; marked = m; width = n; sized = e; sum = c.0; added = c.1; later = c.2 }
 
@@ -147,18 +148,18 @@ module _ (build : Build) (bs : List ℕ) where
     calm_back ss same h = subst (Calm ss (current + p.width)) same (subst (λ (n : ℕ). Calm ss n p.next) sum_is h)
 
   -- the width of a reference that was passed
-  passed_ref : (r : AsmReference) (t : List ℕ) (n : ℕ) → compiled_size build t (MarkRef r) ≡ done (some n) → (least_size r ≤ n) × (n ≤ 5)
+  passed_ref : (r : AsmReference) (t : List ℕ) (n : ℕ) → compiled_size build t (MarkRef r) ≡ done (Some n) → (least_size r ≤ n) × (n ≤ 5)
   passed_ref r t n e =
-      let a = and_then_done (walk_value t r.mark_ref) _ (some n) e in
+      let a = and_then_done (walk_value t r.mark_ref) _ (Some n) e in
       let is : size r a.0 ≡ n = ref_some r a.0 n (done_inj a.2) in
       (omega (arith, width_rule.at_least r a.0), omega (arith, size_small r a.0))
 
   -- and of a span
-  passed_span : (span : Span) (n : ℕ) → SpanIn bs span → and_then (sub_u32 build span.end span.start) (λ k. done (some k)) ≡ done (some n)
+  passed_span : (span : Span ℕ) (n : ℕ) → SpanIn bs span → and_then (sub_u32 build span.end span.start) (λ k. done (Some k)) ≡ done (Some n)
       → length (slice span.start span.end bs) ≡ n
   passed_span span n h e =
-      let q : done (some (length (slice span.start span.end bs))) ≡ done (some n) =
-      sym (ap (λ (x : Run ℕ). and_then x (λ k. done (some k))) (span_done build bs span h)) ∙ e in
+      let q : done (Some (length (slice span.start span.end bs))) ≡ done (Some n) =
+      sym (ap (λ (x : Run ℕ). and_then x (λ k. done (Some k))) (span_done build bs span h)) ∙ e in
       cc
 
   walk_calm : (rs : List AsmSection) (i current : ℕ) (w w' : Walk) → EveryIn bs rs → current + need (seen_all bs rs) < 4294967296
@@ -169,7 +170,7 @@ module _ (build : Build) (bs : List ℕ) where
       (ap (λ (x : Walk). x.converged) same ∙ c, (current, refl))
   walk_calm (Mark id ∷ rs) i current w w' j h r c =
       let p = passed (Mark id) rs i current w w' r in
-      let none : p.width ≡ 0 = let e = p.sized in cc in
+      let no_width : p.width ≡ 0 = let e = p.sized in cc in
       let sum : p.sum ≡ current = omega (arith, sum_is (Mark id) rs i current w w' p (omega arith)) in
       let after = walk_calm rs (suc i) p.sum p.next w' j.1 (omega arith) p.later c in
       let k = calm_mark id current w p.next p.marked after.0 in

@@ -2,11 +2,12 @@
 use Prim.Native.Nat.{ℕ, ◌≤◌}
 use mathlib.Core.List.{List, [], ◌∷◌}
 use lib.ListN.{length}
-use Rattle.rust_model.specs.Building.{Span, Assembler}
+use Rattle.units.specs.declared.Span.{Span}
+use Rattle.rust_model.specs.Building.{Assembler}
 use Rattle.rust_model.specs.Sections.{AsmSection, Mark, Ops, Data, MarkRef, iter_sections}
 
 -- a span within the bytes
-pub record SpanIn (bs : List ℕ) (s : Span) : Type 0 where
+pub record SpanIn (bs : List ℕ) (s : Span ℕ) : Type 0 where
   pub ordered : s.start ≤ s.end
   pub within : s.end ≤ length bs
 

@@ -6,7 +6,6 @@ use native.Mathlib.Omega.{arith}
 use mathlib.Core.Path.{◌≡◌, refl, sym, ap, ◌∙◌}
 use mathlib.Core.Bool.{Bool, true, false, cond}
 use mathlib.Core.List.{List, [], ◌∷◌, ◌++◌}
-use mathlib.Core.Option.{none, some}
 use lib.Dec.{leb, ltb, eqb}
 use lib.ListN.{length, get_or, set}
 use lib.Seq.{slice, length-slice}
@@ -20,7 +19,7 @@ use Rattle.units.specs.declared.MarkReference.TheVariants.{Direct, Delta}
 use Rattle.slices.proofs.Tests.{cond_true}
 use Rattle.layout.specs.Passes.{entry, value_by}
 use Rattle.rust_model.specs.Run.{done, panic, Build, add_u32, sub_u32, checked_sub, index, index_mut, range, len_idx, pushed}
-use Rattle.rust_model.specs.Building.{Span}
+use Rattle.units.specs.declared.Span.{Span}
 use Rattle.rust_model.specs.Sections.{as_u32, bytes_to_hold, min_ref_size, saturating_sub, walk_value, ref_size_for}
 use Rattle.rust_model.proofs.Spans.{SpanIn}
 
@@ -46,7 +45,7 @@ pub set_done : (xs : List ℕ) (i v : ℕ) → i < length xs → index_mut xs i 
 unfolding index_mut
 set_done xs i v h = cond_true (ltb i (length xs)) (done (set xs i v)) panic (lt-ltb _ _ h)
 
-pub range_done : (bs : List ℕ) (s : Span) → SpanIn bs s → range bs s.start s.end ≡ done (slice s.start s.end bs)
+pub range_done : (bs : List ℕ) (s : Span ℕ) → SpanIn bs s → range bs s.start s.end ≡ done (slice s.start s.end bs)
 unfolding range
 range_done bs s h = rw (le-leb s.start s.end h.ordered, le-leb s.end (length bs) h.within)
 
@@ -63,7 +62,7 @@ unfolding pushed
 push_done xs x h = rw (len_done xs h)
 
 -- the length of a span is that of its bytes
-pub span_done : (build : Build) (bs : List ℕ) (s : Span) → SpanIn bs s → sub_u32 build s.end s.start ≡ done (length (slice s.start s.end bs))
+pub span_done : (build : Build) (bs : List ℕ) (s : Span ℕ) → SpanIn bs s → sub_u32 build s.end s.start ≡ done (length (slice s.start s.end bs))
 span_done build bs s h = sub_done build s.end s.start h.ordered ∙ ap done (sym (length-slice s.start s.end bs h.within))
 
 -- ---- sizes
@@ -89,21 +88,21 @@ min_same (Some s) true = ap (λ (n : ℕ). n + 1) (as_bytes_lem s)
 min_same (Some s) false = as_bytes_lem s ∙ omega arith
 min_same None p = refl
 
-pub ref_size_same : (s : Option RefSize) (p : Bool) (v : ℕ) → ref_size_for s p v (bytes_to_hold v) ≡ cond (narrow s v) none (some (width s p v))
+pub ref_size_same : (s : Option RefSize) (p : Bool) (v : ℕ) → ref_size_for s p v (bytes_to_hold v) ≡ cond (narrow s v) None (Some (width s p v))
 ref_size_same (Some s) true v = go (as_u32 s) (as_u32 (bytes_to_hold v)) (as_bytes_lem s) (held_same v)
   where
-    go : (a h : ℕ) → a ≡ ref_size_bytes s → h ≡ held_bytes v → cond (ltb a h) none (some (a + 1)) ≡ cond (ltb (ref_size_bytes s) (held_bytes v)) none (some (ref_size_bytes s + 1))
+    go : (a h : ℕ) → a ≡ ref_size_bytes s → h ≡ held_bytes v → cond (ltb a h) None (Some (a + 1)) ≡ cond (ltb (ref_size_bytes s) (held_bytes v)) None (Some (ref_size_bytes s + 1))
     go a h e q = rw (e, q)
 ref_size_same (Some s) false v = go (as_u32 s) (as_u32 (bytes_to_hold v)) (as_bytes_lem s) (held_same v)
   where
-    go : (a h : ℕ) → a ≡ ref_size_bytes s → h ≡ held_bytes v → cond (ltb a h) none (some a) ≡ cond (ltb (ref_size_bytes s) (held_bytes v)) none (some (ref_size_bytes s + 0))
+    go : (a h : ℕ) → a ≡ ref_size_bytes s → h ≡ held_bytes v → cond (ltb a h) None (Some a) ≡ cond (ltb (ref_size_bytes s) (held_bytes v)) None (Some (ref_size_bytes s + 0))
     go a h e q = rw (e, q, add-zero (ref_size_bytes s))
 ref_size_same None true v = go (eqb v 0) (as_u32 (bytes_to_hold v)) (held_same v)
   where
-    go : (z : Bool) (h : ℕ) → h ≡ held_bytes v → cond z (some 1) (some (1 + h)) ≡ some (cond z 1 (held_bytes v + 1))
+    go : (z : Bool) (h : ℕ) → h ≡ held_bytes v → cond z (Some 1) (Some (1 + h)) ≡ Some (cond z 1 (held_bytes v + 1))
     go true h q = refl
-    go false h q = ap some (ap (λ (n : ℕ). 1 + n) q ∙ add_comm 1 (held_bytes v))
-ref_size_same None false v = ap some (held_same v)
+    go false h q = ap Some (ap (λ (n : ℕ). 1 + n) q ∙ add_comm 1 (held_bytes v))
+ref_size_same None false v = ap Some (held_same v)
 
 -- ---- values
 

@@ -2,8 +2,7 @@
 -- each mark it gets room for it and is made as long as its capacity, which the vector and its allocator choose: that choice is a
 -- parameter. They always find the memory here, and a vector may have any length: the real one panics at a hint whose table passes half
 -- the address space. Assumes nothing else.
-use Rattle.std.specs.Prelude.{ℕ, zero, suc, ◌+◌, ◌-◌, ◌≤◌, Bool, true, false, cond, ◌&&◌, List, [], ◌∷◌, ◌++◌, reverse, ltb, eqb, length, replicate, take, Err, None, Ok, Some}
-use Rattle.std.proofs.Math.Option.{Option, none, some}
+use Rattle.std.specs.Prelude.{ℕ, zero, suc, ◌+◌, ◌-◌, ◌≤◌, Bool, true, false, cond, ◌&&◌, List, [], ◌∷◌, ◌++◌, reverse, ltb, eqb, length, replicate, take, None, Some, Option}
 use Rattle.units.specs.declared.RefSize.{RefSize}
 use Rattle.units.specs.declared.MarkReference.{MarkReference}
 use Rattle.units.specs.declared.MarkReference.TheVariants.{Direct, Delta}
@@ -77,8 +76,8 @@ walk_mark (MarkRef r) current w = done w
 
 -- `.ok_or(AssembleError::RefHasTooSmallSetSize(i))?`, then what follows
 abbrev pub or_too_small : ℕ → Option ℕ → (ℕ → Run Walked) → Run Walked
-or_too_small i none next = done (too_small i)
-or_too_small i (some size) next = next size
+or_too_small i None next = done (too_small i)
+or_too_small i (Some size) next = next size
 
 -- the walk over the sections from i on, from `current_code_offset`: a mark is moved where it is met,
 -- so that the sections behind it are sized by its new offset;
@@ -191,8 +190,8 @@ emission a result (ref_has_too_small_set_size i) = done (too_small_set_size i)
 
 -- `mark_id_count_hint.unwrap_or(ASSUMED_MARK_COUNT_WITHOUT_HINT)`
 abbrev pub mark_count : Option ℕ → ℕ
-mark_count none = 128
-mark_count (some hint) = hint
+mark_count None = 128
+mark_count (Some hint) = hint
 
 -- `assemble`, with a hint or without, appending to a result
 unfoldable pub assemble : Build → Reserve → Option ℕ → Assembler → List ℕ → Run Assembled

@@ -1,5 +1,5 @@
 -- The Rust's `Assembler` and what each building call does to its bytes and its list of stored sections, written from lib.rs.
--- Only the datatypes of calls and of references, and what number a word's bytes are, are our contracts' own. Assumes nothing.
+-- Only the datatypes of calls, of references and of spans, and what number a word's bytes are, are our contracts' own. Assumes nothing.
 use Rattle.std.specs.Prelude.{ℕ, zero, suc, ◌+◌, ◌-◌, ◌/◌, ◌%◌, Bool, true, false, cond, ◌&&◌, List, [], ◌∷◌, ◌++◌, reverse, leb, eqb, length, take, None, Option, Some}
 use Rattle.units.specs.declared.Span.{Span}
 use Rattle.units.specs.declared.RefSize.{RefSize}
@@ -12,16 +12,11 @@ use Rattle.calls.specs.Calls.{Push, push_mark, push_op_byte, push_swap, push_dup
 use Rattle.calls.specs.Calls.{push_minimal_u256, push_minimal_u64, push_minimal_u32, Call, push, push_op_bytes, clear}
 use Rattle.rust_model.specs.Run.{Run, done, panic, and_then, Build, debug_assert, len_idx, pushed}
 
--- `Span<AsmBytesIdx>`
-pub record Span : Type 0 where
-  pub start : ℕ
-  pub end : ℕ
-
 -- `StoredAsmSection`
 pub data StoredAsmSection : Type 0 where
   Mark : ℕ → StoredAsmSection
-  Ops : Span → StoredAsmSection
-  Data : Span → StoredAsmSection
+  Ops : Span ℕ → StoredAsmSection
+  Data : Span ℕ → StoredAsmSection
   DirectMarkRef : ℕ → Option RefSize → Bool → StoredAsmSection
   UnsizedPushedDeltaRef : Span MarkId → StoredAsmSection
   Size1PushedDeltaRef : Span MarkId → StoredAsmSection
@@ -51,8 +46,8 @@ push_section a s = record { bytes = a.bytes; sections = a.sections ++ (s ∷ [])
 
 -- what a match on `sections.last_mut()` tells: an Ops or a Data section after these sections, or anything else
 pub data Last : Type 0 where
-  last_ops : List StoredAsmSection → Span → Last
-  last_data : List StoredAsmSection → Span → Last
+  last_ops : List StoredAsmSection → Span ℕ → Last
+  last_data : List StoredAsmSection → Span ℕ → Last
   other : Last
 
 -- of a list of one section
@@ -91,7 +86,7 @@ last_mut (s ∷ ss) = last_of s ss
 -- ---- op bytes
 
 -- the arm for a last Ops section: `assert!(bytes_span.end == self.bytes.len_idx())`, then the byte and the new end
-unfoldable pub extend_ops : List StoredAsmSection → Span → List ℕ → ℕ → Run Assembler
+unfoldable pub extend_ops : List StoredAsmSection → Span ℕ → List ℕ → ℕ → Run Assembler
 extend_ops before span bytes byte =
     and_then (len_idx bytes) (λ len.
     cond (eqb span.end len)
@@ -198,14 +193,14 @@ u256 word = cond (eqb (length word) 32) (done (number word)) panic
 -- ---- data
 
 -- the new end of a last Data section
-unfoldable pub longer_data : List StoredAsmSection → Span → List ℕ → List ℕ → Run Assembler
+unfoldable pub longer_data : List StoredAsmSection → Span ℕ → List ℕ → List ℕ → Run Assembler
 longer_data before span bytes added =
     and_then (len_idx (bytes ++ added)) (λ end.
     done (record { bytes = bytes ++ added; sections = before ++ (Data (record { start = span.start; end = end }) ∷ []) }))
 
 -- the arm for a last Data section: `debug_assert!(bytes_span.end == self.bytes.len_idx())`, then the data and the new end (a length that
 -- is no index panics there too, since the new one isn't shorter)
-unfoldable pub extend_data : Build → List StoredAsmSection → Span → List ℕ → List ℕ → Run Assembler
+unfoldable pub extend_data : Build → List StoredAsmSection → Span ℕ → List ℕ → List ℕ → Run Assembler
 extend_data build before span bytes added = debug_assert build (eqb span.end (length bytes)) (longer_data before span bytes added)
 
 -- the arm for all else: a new Data section

@@ -2,8 +2,7 @@
 -- between its placings, 01's limits hold and no lent slice is too short, the code, placed marks' offsets, section of a too-small set size
 -- and listing equal the Rust's.' The Rust is the definitions beside this one; ours are those that the contracts of the building calls,
 -- `assemble` and `write_asm` cite, and lists of calls (`run_replies`, `run_after`). Its proof is in proofs/Demand2. Assumes nothing.
-use Rattle.std.specs.Prelude.{ℕ, ◌+◌, ◌*◌, ◌≤◌, ◌≡◌, true, false, ◌⊎◌, ◌↔◌, List, [], ◌∷◌, ◌++◌, map, length, drop}
-use Rattle.std.proofs.Math.Option.{Option}
+use Rattle.std.specs.Prelude.{ℕ, ◌+◌, ◌*◌, ◌≤◌, ◌≡◌, true, false, ◌⊎◌, ◌↔◌, List, [], ◌∷◌, ◌++◌, map, length, drop, Option}
 use Rattle.std.proofs.Math.Seq.{slice}
 use Rattle.units.specs.Replies.{too_narrow, unsettled, backward}
 use Rattle.units.specs.Reply.{accepted, refused}

@@ -1,7 +1,6 @@
 -- The Rust's `write_asm`, written from display.rs and from `op::push_size` of op.rs. Only the 256 names, what bytes a text is, and
 -- the datatype of references are our contracts' own. Writing to a `String` doesn't fail. Assumes nothing.
-use Rattle.std.specs.Prelude.{ℕ, zero, suc, ◌+◌, ◌-◌, ◌/◌, ◌%◌, min, Bool, true, false, cond, ◌&&◌, List, [], ◌∷◌, ◌++◌, leb, ltb, length, get_or, None, Some}
-use Rattle.std.proofs.Math.Option.{Option, none, some}
+use Rattle.std.specs.Prelude.{ℕ, zero, suc, ◌+◌, ◌-◌, ◌/◌, ◌%◌, min, Bool, true, false, cond, ◌&&◌, List, [], ◌∷◌, ◌++◌, leb, ltb, length, get_or, None, Some, Option}
 use Rattle.std.proofs.Math.Seq.{slice}
 use Rattle.units.specs.declared.RefSize.{RefSize}
 use Rattle.units.specs.declared.MarkReference.{MarkReference}
@@ -33,7 +32,7 @@ hex_bytes (b ∷ bs) = hex_digit (b / 16) ∷ hex_digit (b % 16) ∷ hex_bytes b
 
 -- `op::push_size`: PUSH1 to PUSH32, hex 60 to 7f
 unfoldable pub push_size : ℕ → Option ℕ
-push_size opcode = cond (leb 0x60 opcode && leb opcode 0x7f) (some (opcode - 0x60 + 1)) none
+push_size opcode = cond (leb 0x60 opcode && leb opcode 0x7f) (Some (opcode - 0x60 + 1)) None
 
 -- ---- `fmt_ops`
 
@@ -50,8 +49,8 @@ imm_end ops i size = min (i + 1 + size) (length ops)
 
 -- the two arms of `if let Some(push_size) = op::push_size(opcode)`; `next` is the loop from an index on
 abbrev pub fmt_op : List ℕ → ℕ → ℕ → Option ℕ → (ℕ → List ℕ) → List ℕ
-fmt_op ops i opcode (some size) next = push_line ops opcode size (i + 1) (imm_end ops i size) ++ next (imm_end ops i size)
-fmt_op ops i opcode none next = (as_bytes "  " ++ op_name opcode ++ as_bytes "\n") ++ next (i + 1)
+fmt_op ops i opcode (Some size) next = push_line ops opcode size (i + 1) (imm_end ops i size) ++ next (imm_end ops i size)
+fmt_op ops i opcode None next = (as_bytes "  " ++ op_name opcode ++ as_bytes "\n") ++ next (i + 1)
 
 -- `while i < ops.len()`, at most `fuel` times: i grows each time, so the length is enough
 unfoldable pub fmt_ops_from : ℕ → List ℕ → ℕ → List ℕ

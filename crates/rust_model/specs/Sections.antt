@@ -1,7 +1,6 @@
 -- The Rust's sections as they are read back, and their sizes, written from lib.rs: `AsmSection`, `min_compiled_size`, `compiled_size`,
 -- `bytes_to_hold`. Assumes nothing.
-use Rattle.std.specs.Prelude.{ℕ, ◌+◌, ◌-◌, Bool, true, false, cond, List, map, leb, ltb, eqb, None, Some}
-use Rattle.std.proofs.Math.Option.{Option, none, some}
+use Rattle.std.specs.Prelude.{ℕ, ◌+◌, ◌-◌, Bool, true, false, cond, List, map, leb, ltb, eqb, None, Some, Option}
 use Rattle.units.specs.declared.Span.{Span}
 use Rattle.units.specs.declared.MarkId.{MarkId}
 use Rattle.units.specs.declared.RefSize.{RefSize}
@@ -10,14 +9,14 @@ use Rattle.units.specs.declared.MarkReference.{MarkReference}
 use Rattle.units.specs.declared.MarkReference.TheVariants.{Direct, Delta}
 use Rattle.units.specs.declared.AsmReference.{AsmReference}
 use Rattle.rust_model.specs.Run.{Run, done, and_then, Build, sub_u32, index}
-use Rattle.rust_model.specs.Building.{Span, StoredAsmSection, Assembler}
+use Rattle.rust_model.specs.Building.{StoredAsmSection, Assembler}
 use Rattle.rust_model.specs.Building as stored
 
 -- `AsmSection`
 pub data AsmSection : Type 0 where
   Mark : ℕ → AsmSection
-  Ops : Span → AsmSection
-  Data : Span → AsmSection
+  Ops : Span ℕ → AsmSection
+  Data : Span ℕ → AsmSection
   MarkRef : AsmReference → AsmSection
 
 -- `AsmSection::delta_ref`
@@ -82,15 +81,15 @@ walk_value markMap (Delta span) =
 
 -- `match (mark_ref.set_size, mark_ref.pushed)` of `compiled_size`; none is a set size that is too small
 abbrev pub ref_size_for : Option RefSize → Bool → ℕ → RefSize → Option ℕ
-ref_size_for (Some s) true v held = cond (ltb (as_u32 s) (as_u32 held)) none (some (as_u32 s + 1))
-ref_size_for (Some s) false v held = cond (ltb (as_u32 s) (as_u32 held)) none (some (as_u32 s))
-ref_size_for None true v held = cond (eqb v 0) (some 1) (some (1 + as_u32 held))
-ref_size_for None false v held = some (as_u32 held)
+ref_size_for (Some s) true v held = cond (ltb (as_u32 s) (as_u32 held)) None (Some (as_u32 s + 1))
+ref_size_for (Some s) false v held = cond (ltb (as_u32 s) (as_u32 held)) None (Some (as_u32 s))
+ref_size_for None true v held = cond (eqb v 0) (Some 1) (Some (1 + as_u32 held))
+ref_size_for None false v held = Some (as_u32 held)
 
 -- `compiled_size`
 abbrev pub compiled_size : Build → List ℕ → AsmSection → Run (Option ℕ)
-compiled_size build markMap (Mark id) = done (some 0)
-compiled_size build markMap (Ops span) = and_then (sub_u32 build span.end span.start) (λ n. done (some n))
-compiled_size build markMap (Data span) = and_then (sub_u32 build span.end span.start) (λ n. done (some n))
+compiled_size build markMap (Mark id) = done (Some 0)
+compiled_size build markMap (Ops span) = and_then (sub_u32 build span.end span.start) (λ n. done (Some n))
+compiled_size build markMap (Data span) = and_then (sub_u32 build span.end span.start) (λ n. done (Some n))
 compiled_size build markMap (MarkRef r) =
     and_then (walk_value markMap r.mark_ref) (λ v. done (ref_size_for r.set_size r.pushed v (bytes_to_hold v)))

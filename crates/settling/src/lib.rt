@@ -19,10 +19,10 @@ ghost use Rattle.settling.specs.TightSettling.{SettlesWithin, SettlesLeast};
 
 use crate::passes::run_passes;
 use crate::search::{first_backward, first_unplaced};
-use crate::section::entry_of;
 use crate::table::{less_one, place};
 use records::Assembler;
-pub use search::{is_short, missing_refusal};
+pub use search::{is_backward, is_short, missing_refusal};
+pub use section::{entry_of, size_of, span_length};
 pub use table::{clear, earlier};
 use undamaged::UndamagedStore;
 use units::{LaidOut, MarkId, Refusal};

@@ -3,7 +3,7 @@
 ghost use Rattle.std.specs.Prelude.{◌≡◌, ℕ, ◌<◌, ◌≤◌, leb, length, true, false};
 ghost use Rattle.records.specs.Store.{words_per_section, words_at};
 ghost use Rattle.layout.specs.Conditions.{Never, delta_at, first_unplaced, first_backward};
-ghost use Rattle.settling.specs.SectionWalk.{sections_in, MarksFit, short_words, MarksIn, unplaced_words, backward_words};
+ghost use Rattle.settling.specs.SectionWalk.{sections_in, MarksFit, short_words, unplaced_words, backward_words};
 ghost use Rattle.settling.specs.SectionWalk.{first_sums, all_placed, missing_words, missing_refusal};
 
 use crate::section::entry_of;
@@ -41,7 +41,6 @@ pub fn is_short(section: StoredSection, limit: usize) -> bool
 // 8, 17 or 18, for one section, by the table of first placings.
 #[tactic(auto, unfolding(crate::specs::SectionWalk::unplaced_words))]
 fn is_unplaced(section: StoredSection, table: &[u32]) -> bool
-    requires { MarksIn (length table.now) section }
     ensures { result ≡ unplaced_words table.now section }
 {
     if section.kind < kind::DIRECT {
@@ -107,10 +106,9 @@ pub fn missing_refusal(section: StoredSection, start_placed: bool, at: u32) -> R
     Refusal::StartUnplaced { section: at }
 }
 
-// 12, for one section, by the settled table.
+// 12, for one section, by a table.
 #[tactic(auto, unfolding(crate::specs::SectionWalk::backward_words))]
-fn is_backward(section: StoredSection, table: &[u32]) -> bool
-    requires { MarksIn (length table.now) section }
+pub fn is_backward(section: StoredSection, table: &[u32]) -> bool
     ensures { result ≡ backward_words table.now section }
 {
     if section.kind <= kind::DIRECT {

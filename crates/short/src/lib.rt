@@ -113,7 +113,13 @@ pub fn extend_data(state: u64, bytes: &mut [u8], words: &mut [u32], added: &[u8]
 }
 
 // Op bytes or data, by their kind.
-fn extend_bytes(state: u64, bytes: &mut [u8], words: &mut [u32], kind: u32, added: &[u8]) -> Option<u64>
+fn extend_bytes(
+    state: u64,
+    bytes: &mut [u8],
+    words: &mut [u32],
+    kind: u32,
+    added: &[u8],
+) -> Option<u64>
     requires { (0 < kind) × (kind < 3) }
     ensures { TriedSection (span_section kind added.now) (store_in state bytes.old words.old) result
         bytes.new words.new }

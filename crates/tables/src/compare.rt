@@ -5,9 +5,8 @@ ghost use Rattle.tables.specs.MarkMap.{Covers};
 ghost use Rattle.tables.specs.TableWalk.{ComparedTo, earlier};
 
 use crate::map::MarkMap;
-use crate::section::{entry_of, is_backward, size_of};
 use records::kind;
-use settling::is_short;
+use settling::{entry_of, is_backward, is_short, size_of};
 use undamaged::UndamagedStore;
 use units::MarkId;
 
@@ -59,8 +58,5 @@ pub(crate) fn compare<const BYTES: usize>(
 fn earlier(found: Option<u32>, i: u32, is_one: bool) -> Option<u32>
     ensures { result ≡ earlier found i is_one }
 {
-    if found.is_none() && is_one {
-        return Some(i);
-    }
-    found
+    if is_one { found.or(Some(i)) } else { found }
 }

@@ -6,7 +6,6 @@
 mod compare;
 mod map;
 mod search;
-mod section;
 
 ghost use Rattle.std.specs.Prelude.{◌≡◌, ◌^◌, ◌<◌, length, replicate, Err};
 ghost use Rattle.records.specs.Store.{store_of, words_per_section};

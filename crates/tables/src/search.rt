@@ -1,16 +1,14 @@
 // The searches that a walk leaves to be done: 7 from where it stopped, the marks placed from there on, 8, 17 or 18 by the map, and, where it
 // stopped, 9. Each search answers the first section with a property, if there is one.
-ghost use Rattle.std.specs.Prelude.{◌≡◌, ◌*◌, ◌≤◌, ◌<◌, length, replicate};
-ghost use Rattle.records.specs.Record.{mark_kind, direct_kind};
+ghost use Rattle.std.specs.Prelude.{◌≡◌, ◌*◌, ◌≤◌, length, replicate};
 ghost use Rattle.layout.specs.Conditions.{short_at, unplaced_at, apart_at};
 ghost use Rattle.settling.specs.SectionWalk.{sections_in, MarksFit, MarksIn};
 ghost use Rattle.tables.specs.MarkMap.{Covers, Marked};
 ghost use Rattle.tables.specs.TableWalk.{NoneTo, Found, unplaced_by, bytes_words};
 
 use crate::map::MarkMap;
-use crate::section::span_length;
 use records::{StoredSection, kind};
-use settling::is_short;
+use settling::{is_short, span_length};
 use undamaged::UndamagedStore;
 use units::MarkId;
 
@@ -110,7 +108,6 @@ fn is_unplaced<const BYTES: usize>(section: StoredSection, map: &MarkMap<BYTES>)
 // A reference, or an Ops or Data section that isn't empty.
 #[tactic(auto, using(std::proofs::lemmas::Bool::Decides::nat_tests), unfolding(crate::specs::TableWalk::bytes_words))]
 fn has_bytes(section: StoredSection) -> bool
-    requires { (section.kind ≡ mark_kind → ⊥) → section.kind < direct_kind → section.first ≤ section.second }
     ensures { result ≡ bytes_words section }
 {
     if section.kind == kind::MARK {

@@ -47,9 +47,6 @@ missed c =
     let same = ap (λ (v : ℕ). not (eqb v 0)) c.entry_of-start_placed.ensures ∙ entry_placed _ _ _ s.requires.table_value s.requires.in_table _ (first-in read) in
     missing_test _ _ _ (here read) s.requires.first.1 _ same
 
-pub entry_of-start_placed-requires : goal.entry_of-start_placed-requires
-entry_of-start_placed-requires c = first-in (goal.at.entry_of-start_placed-requires c).After-section-section
-
 pub returns : goal.returns
 returns c =
     let refusing = c in

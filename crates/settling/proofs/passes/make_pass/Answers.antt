@@ -8,7 +8,7 @@ use mathlib.Core.List.{List}
 use lib.ListN.{length}
 use Rattle.records.specs.Sections.{Section}
 use Rattle.settling.specs.SectionWalk.{sections_in, MarksIn}
-use Rattle.settling.proofs.SectionWords.{as_mark, not_mark, ordered, size_words_lem}
+use Rattle.settling.proofs.SectionWords.{as_mark, not_mark, size_words_lem}
 use Rattle.settling.proofs.Sections.{sections_count, Turn, turn_at, marks_fit, room_mark, room_size, sums_small}
 use Rattle.settling.proofs.Turns.{pass_start, pass_next, pass_at, pass_past, pass_left, pass_done}
 use Rattle.settling.proofs.passes.make_pass.Goals as goal
@@ -39,11 +39,6 @@ loop-i-init c = (omega arith, pass_start _ _)
 pub move_mark-moved-requires : goal.move_mark-moved-requires
 move_mark-moved-requires c =
     (marks-here (goal.at.move_mark-moved-requires c).After-section-section).placed c.if-section-eq-MARK.true
-
-pub size_of-requires : goal.size_of-requires
-size_of-requires c =
-    let read = (goal.at.size_of-requires c).After-section-section in
-    (marks-here read, ordered (here read).words c.if-section-eq-MARK.false)
 
 pub returns-in_default : goal.returns-in_default
 returns-in_default c =

@@ -18,7 +18,7 @@ use Rattle.layout.specs.Passes.{start_from}
 use Rattle.layout.specs.Conditions.{section_at, short_at, first_short, apart_at, first_apart, delta_at, sum_of}
 use Rattle.layout.proofs.Moves.{width_by}
 use Rattle.settling.specs.SectionWalk.{sections_in, least_words, place_mark, place_from, less_one}
-use Rattle.settling.proofs.SectionWords.{as_mark, not_mark, ordered, least_words_lem, marks_in}
+use Rattle.settling.proofs.SectionWords.{as_mark, not_mark, least_words_lem, marks_in}
 use Rattle.settling.proofs.Sections.{sections_count, Turn, turn_at, short_test, delta_test, room_mark, room_least, sums_small, least_next}
 use Rattle.settling.proofs.Turns.{walk_next, place_start, place_at, place_past, place_done, start_start, start_past, start_done}
 use Rattle.settling.proofs.FirstPlacings.{apart_none}
@@ -99,9 +99,6 @@ place_mark-is_apart-requires c =
     let at-if3 = c in
     let read = reading (goal.at.place_mark-is_apart-requires at-if3).Else-is_short in
     (omega (arith, mark-in (goal.at.place_mark-is_apart-requires at-if3).Else-is_short at-if3.if-section-eq-MARK.true, (at-loop read).loop-i.invariant.0.2), omega (arith, sum-small read))
-
-pub least_size-sum-requires : goal.least_size-sum-requires
-least_size-sum-requires c = ordered (here (reading (goal.at.least_size-sum-requires c).Else-is_short)).words c.if-section-eq-MARK.false
 
 pub overflow_add-sum : goal.overflow_add-sum
 overflow_add-sum c =

@@ -14,7 +14,7 @@ use Rattle.slices.proofs.First.{search_start, search_next}
 use Rattle.layout.specs.Passes.{entry as entryIn, size_by}
 use Rattle.layout.specs.Conditions.{IsFirst, section_at, short_at, sum_of}
 use Rattle.settling.specs.SectionWalk.{sections_in, MarksIn}
-use Rattle.settling.proofs.SectionWords.{size_section, as_mark, not_mark, ordered, size_words_lem, marks_in}
+use Rattle.settling.proofs.SectionWords.{size_section, as_mark, not_mark, size_words_lem, marks_in}
 use Rattle.settling.proofs.Sections.{sections_count, Turn, turn_at, short_test, backward_test, room_mark, room_size, sums_small}
 use Rattle.tables.specs.MarkMap.{Marked}
 use Rattle.tables.specs.TableWalk.{stops_at}
@@ -62,9 +62,6 @@ returns-then-is_short g c =
     let asked = (goal.at.returns-then-is_short g c).After-is_short in
     stopped g (goal.at.After-is_short g asked).After-section-section (stops_short _ _ _ (sym (tested g asked) ∙ c.if-is_short.true))
 
-pub entry_of-requires : goal.entry_of-requires
-entry_of-requires g c = (marks-here g (goal.at.entry_of-requires g c).Else-is_short).placed c.if-section-eq-MARK.true
-
 pub returns-then-entry_of-sum : goal.returns-then-entry_of-sum
 returns-then-entry_of-sum g c =
     let read = (goal.at.returns-then-entry_of-sum g c).After-section-section in
@@ -72,11 +69,6 @@ returns-then-entry_of-sum g c =
 
 pub insert-requires : goal.insert-requires
 insert-requires g c = (search rules, (mapped-here g (goal.at.insert-requires g c).Else-is_short).placed c.if-section-eq-MARK.true)
-
-pub size_of-requires : goal.size_of-requires
-size_of-requires g c =
-    let long = (goal.at.size_of-requires g c).Else-is_short in
-    (marks-here g long, ordered (here g (goal.at.Else-is_short g long).After-section-section).words c.if-section-eq-MARK.false)
 
 pub returns-in_default : goal.returns-in_default
 returns-in_default g c =
@@ -92,9 +84,6 @@ overflow_add-sum g c =
     let is = sym (sized g size) ∙ c.in-Some.is in
     let next : c.loop-i.i + 1 ≤ c.args.store.counts.sections = omega (arith, c.loop-i-test.true) in
     omega (arith, sums_small c.args.store (c.loop-i.i + 1) _ (room_size _ _ _ t.below c.loop-i.invariant.0 _ _ is) next)
-
-pub is_backward-requires : goal.is_backward-requires
-is_backward-requires g c = marks-here g (goal.at.is_backward-requires g c).Else-is_short
 
 pub loop-i-preserved : goal.loop-i-preserved
 loop-i-preserved g c =

@@ -9,7 +9,7 @@ use borrow.Author.Rules.{rules}
 use Rattle.records.specs.Record.{mark_kind}
 use Rattle.layout.specs.Conditions.{has_bytes, apart_at}
 use Rattle.settling.specs.SectionWalk.{sections_in, MarksIn}
-use Rattle.settling.proofs.SectionWords.{as_mark, not_mark, ordered}
+use Rattle.settling.proofs.SectionWords.{as_mark, not_mark}
 use Rattle.settling.proofs.Sections.{sections_count, Turn, turn_at}
 use Rattle.settling.proofs.FirstPlacings.{apart_none}
 use Rattle.tables.specs.MarkMap.{in_map}
@@ -45,9 +45,6 @@ pub returns-then-contains : goal.returns-then-contains
 returns-then-contains g c =
     let read = (goal.at.returns-then-contains g c).After-section-section in
     ((here g read).below, sym (tested g read _ c.if-section-eq-MARK.true c.contains.ensures) ∙ c.if-contains.true, c.loop-i.invariant.together)
-
-pub has_bytes-requires : goal.has_bytes-requires
-has_bytes-requires g c = ordered (here g (goal.at.has_bytes-requires g c).After-section-section).words
 
 pub loop-i-preserved : goal.loop-i-preserved
 loop-i-preserved g c =
