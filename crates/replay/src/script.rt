@@ -68,5 +68,5 @@ fn within(number: [u8; 4], most: usize) -> Option<usize>
     ensures { IfSome result (λ n. n ≤ most) }
 {
     let n = u32::from_be_bytes(number) as usize;
-    if n <= most { Some(n) } else { None }
+    (n <= most).then_some(n)
 }

@@ -2,21 +2,21 @@
 -- Assumes nothing.
 use Prim.Native.Nat.{ℕ, ◌≤◌}
 use native.Mathlib.Omega.{arith}
-use mathlib.Core.Path.{◌≡◌, refl}
+use mathlib.Core.Path.{◌≡◌, refl, sym, ap, ◌∙◌}
 use mathlib.Core.Bool.{Bool, true, false, cond}
 use mathlib.Core.List.{List}
 use lib.ListN.{length}
 use lib.Dec.{ltb}
 use borrow.Author.Tests.{ltb-false}
+use Rattle.std.specs.Prelude.{Result, Ok}
+use Rattle.units.specs.declared.reply.Refusal.{Refusal}
 use Rattle.units.specs.Replies.{listing_full}
 use Rattle.units.specs.Reply.{Reply, accepted, refused}
 use Rattle.records.specs.Store.{Store}
 use Rattle.records.specs.Damage.{Soundness, Sound, Damaged, whole_soundness}
 use Rattle.records.specs.Sections.{decode}
-use Rattle.records.specs.Damage.{Soundness}
-use Rattle.records.specs.Damage.{Sound, Damaged}
 use Rattle.listing.specs.Listing.{listing}
-use Rattle.listing.specs.Answer.{reply_for, listing_reply}
+use Rattle.listing.specs.Answer.{reply_for, listed_reply, listing_reply}
 
 -- by the test for 14: k is the text's length and m the buffer's
 by_test : (b : Bool) (m k n : ℕ) → ltb m k ≡ b → ◌≡◌ {A = Reply ℕ} (accepted n) (cond b (refused listing_full 0 0) (accepted k)) → n ≤ m
@@ -29,6 +29,7 @@ by_soundness (Damaged i) text buffer n e = let z : ◌≡◌ {A = ℕ} 0 1 = cc 
 by_soundness Sound text buffer n e = by_test (ltb (length buffer) (length text)) (length buffer) (length text) n refl e
 
 -- the length that is answered is at most the buffer's
-pub listed_fits : (w : ℕ) (st : Store) (buffer : List ℕ) (n : ℕ) → accepted n ≡ listing_reply w st buffer → n ≤ length buffer
+pub listed_fits : (w : ℕ) (st : Store) (buffer : List ℕ) (r : Result ℕ Refusal) (n : ℕ) → listed_reply r ≡ listing_reply w st buffer → r ≡ Ok n → n ≤ length buffer
 unfolding listing_reply
-listed_fits w st buffer n e = by_soundness (whole_soundness w st) (listing (decode w st)) buffer n e
+listed_fits w st buffer r n e is =
+    by_soundness (whole_soundness w st) (listing (decode w st)) buffer n (sym (ap listed_reply is) ∙ e)
