@@ -13,6 +13,7 @@ use undamaged::UndamagedStore;
 use units::MarkId;
 
 // 7, from a section on before which there is none.
+// Kept: a loop here and in `first_unplaced`: settling's `first_section`, which takes the test as a closure, has a `requires`, so it can't be public.
 pub(crate) fn first_short(store: UndamagedStore, limit: usize, from: u32) -> Option<u32>
     requires { NoneTo (short_at limit (sections_in store)) from }
     ensures { Found (sections_in store.entry) (short_at limit (sections_in store.entry)) result }
