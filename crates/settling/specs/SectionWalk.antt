@@ -1,7 +1,7 @@
 -- What the functions inside settling go by, and those of `tables` and of the writer of code: the store that they are lent, a section by its
 -- three words, the table of first placings, and the passes' reply. proofs/ has that each is what layout/specs says of the decoded sections.
 -- Assumes nothing.
-use Rattle.std.specs.Prelude.{Result, Ok, Err, Option, Some, ℕ, ◌+◌, ◌-◌, ◌≤◌, ◌<◌, ◌≡◌, Bool, false, cond, not, ◌&&◌, ◌||◌, List, [], ◌∷◌, leb, ltb, eqb, length, set, replicate}
+use Rattle.std.specs.Prelude.{Result, Ok, Err, Option, Some, None, ℕ, ◌+◌, ◌-◌, ◌≤◌, ◌<◌, ◌≡◌, Bool, false, cond, not, ◌&&◌, ◌||◌, List, [], ◌∷◌, leb, ltb, eqb, length, set, replicate}
 use Rattle.units.specs.Reference.{least_size}
 use Rattle.units.specs.Form.{least_by_form, size_by_form}
 use Rattle.units.specs.declared.reply.LaidOut.{LaidOut}
@@ -14,7 +14,7 @@ use Rattle.records.specs.declared.record.StoredSection.{StoredSection}
 use Rattle.undamaged.specs.View.{Undamaged}
 use Rattle.undamaged.specs.declared.store.UndamagedStore.{UndamagedStore}
 use Rattle.layout.specs.Passes.{entry, start, Walked, through, left_at, Settling, settled, narrow_at, unsettled, settle}
-use Rattle.layout.specs.Conditions.{Never, some_below, short_at, Missing, direct_mark, delta_start, delta_end, delta_at, first_apart}
+use Rattle.layout.specs.Conditions.{IsFirst, Never, some_below, short_at, Missing, direct_mark, delta_start, delta_end, delta_at, first_apart}
 use Rattle.layout.specs.Answer.{Answer, settling_answer}
 use Rattle.settling.specs.declared.passes.Pass.{Pass}
 use Rattle.settling.specs.declared.table.Placings.{Placings}
@@ -120,6 +120,13 @@ pub record Placed (n : ℕ) (ss : List Section) (found : Placings) (table : List
   pub started : length ss ≤ found.apart → less_one table ≡ start n ss
   -- no delta met: 'every reference be direct'
   pub direct : found.has_delta ≡ false → Never ss (delta_at ss)
+
+-- ---- the searches
+
+-- what a search answers: the first section with a property, or that none has it
+abbrev pub Found : List Section → (ℕ → Bool) → Option ℕ → Type 0
+Found ss test (Some i) = IsFirst ss test i
+Found ss test None = Never ss test
 
 -- ---- the passes
 

@@ -65,9 +65,8 @@ fn settle_whole(store: UndamagedStore, table: &mut [u32]) -> Result<LaidOut, Ref
     if short < store.counts.sections {
         return refuse(table, Refusal::ShortTable { section: short });
     }
-    let unplaced = first_unplaced(store, table);
-    if unplaced < store.counts.sections {
-        return refuse_unplaced(store, table, unplaced);
+    if let Some(section) = first_unplaced(store, table) {
+        return refuse_unplaced(store, table, section);
     }
     let apart = found.apart;
     if apart < store.counts.sections {
@@ -110,10 +109,9 @@ fn settle_placed(
 {
     less_one(table);
     let laid = run_passes(store, table)?;
-    let backward = first_backward(store, table, has_delta);
-    if backward < store.counts.sections {
+    if let Some(section) = first_backward(store, table, has_delta) {
         let refusal = Refusal::Backward {
-            section: backward,
+            section,
             passes: laid.passes,
         };
         return refuse(table, refusal);

@@ -41,7 +41,7 @@ pub fn earlier(found: u32, i: u32, is_one: bool) -> u32
 
 // What the walk of the placings finds. The first section with a mark at or past the table's length, at which it stops; the first placing
 // with bytes between it and an earlier one; each the count of sections if there is none. And whether it met a delta.
-// Kept: no Options, for the reason of `search::first_section`; and `earlier`, which keeps the first one apart, compares numbers.
+// Kept: no Options, since the definitions of 7 and 9 that these are equated with answer the count too (layout, Conditions).
 #[derive(Clone, Copy)]
 pub(crate) struct Placings {
     pub(crate) short: u32,

@@ -21,12 +21,12 @@ use Rattle.undamaged.proofs.Soundness.{undamaged_iff}
 use Rattle.undamaged.proofs.Reading.{Reads, is_damaged_lem, is_mark, is_ops_lem, is_data, is_direct, is_delta_lem, reads}
 use Rattle.layout.specs.Passes.{entry, value_by, size_by, unlike}
 use Rattle.layout.specs.Conditions.{section_at, places_some, short_at, backward_at}
-use Rattle.settling.specs.SectionWalk.{MarksIn}
+use Rattle.settling.specs.SectionWalk.{MarksIn, Found}
 use Rattle.settling.proofs.SectionWords.{size_section, NotMark}
 use Rattle.settling.proofs.Sections.{sum_next}
 use Rattle.tables.specs.MarkMap.{Covers}
 use Rattle.tables.specs.TableTests.{sum_before, differs_at, narrow_by, too_narrow_at, wrong_at}
-use Rattle.tables.specs.TableWalk.{Found, earlier, stops_at}
+use Rattle.tables.specs.TableWalk.{earlier, stops_at}
 
 -- ---- marks
 

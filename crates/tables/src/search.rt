@@ -3,9 +3,9 @@
 ghost use Rattle.std.specs.Prelude.{◌≡◌, ◌*◌, ◌≤◌, ◌<◌, length, replicate};
 ghost use Rattle.records.specs.Record.{mark_kind, direct_kind};
 ghost use Rattle.layout.specs.Conditions.{short_at, unplaced_at, apart_at};
-ghost use Rattle.settling.specs.SectionWalk.{sections_in, MarksFit, MarksIn};
+ghost use Rattle.settling.specs.SectionWalk.{sections_in, MarksFit, MarksIn, Found};
 ghost use Rattle.tables.specs.MarkMap.{Covers, Marked};
-ghost use Rattle.tables.specs.TableWalk.{NoneTo, Found, unplaced_by, bytes_words};
+ghost use Rattle.tables.specs.TableWalk.{NoneTo, unplaced_by, bytes_words};
 
 use crate::map::MarkMap;
 use crate::section::span_length;
