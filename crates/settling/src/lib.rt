@@ -23,7 +23,7 @@ use crate::section::entry_of;
 use crate::table::{less_one, place};
 use records::Assembler;
 pub use search::{is_short, missing_refusal};
-pub use table::{clear, earlier};
+pub use table::clear;
 use undamaged::UndamagedStore;
 use units::{LaidOut, MarkId, Refusal};
 
@@ -60,17 +60,15 @@ fn settle_whole(store: UndamagedStore, table: &mut [u32]) -> Result<LaidOut, Ref
         ≡ answer_table (length table.old)
         (answer (length table.old) (sections_in store.entry)) }
 {
-    let found = place(store, table);
-    let short = found.short;
-    if short < store.counts.sections {
-        return refuse(table, Refusal::ShortTable { section: short });
-    }
+    let found = match place(store, table) {
+        Ok(found) => found,
+        Err(section) => return refuse(table, Refusal::ShortTable { section }),
+    };
     if let Some(section) = first_unplaced(store, table) {
         return refuse_unplaced(store, table, section);
     }
-    let apart = found.apart;
-    if apart < store.counts.sections {
-        return refuse(table, Refusal::PlacedApart { section: apart });
+    if let Some(section) = found.apart {
+        return refuse(table, Refusal::PlacedApart { section });
     }
     settle_placed(store, table, found.has_delta)
 }
