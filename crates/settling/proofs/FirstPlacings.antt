@@ -18,8 +18,8 @@ use Rattle.units.specs.declared.MarkReference.TheVariants.{Direct, Delta}
 use Rattle.records.specs.Sections.{Section, mark, ops, bytes, reference}
 use Rattle.records.specs.declared.record.StoredSection.{StoredSection}
 use Rattle.layout.specs.Passes.{entry}
-use Rattle.layout.specs.Conditions.{section_at, sum_of, Never, some_below, places_some, some_mark, names_some, placed, short_at, unplaced_at, first_unplaced, bytes_between, apart_at}
-use Rattle.layout.proofs.Least.{none_below, some_below_lem, never_law}
+use Rattle.layout.specs.Conditions.{section_at, sum_of, Never, some_below, places_some, some_mark, names_some, placed, short_at, unplaced_at, bytes_between, apart_at}
+use Rattle.layout.proofs.Least.{none_below, some_below_lem}
 use Rattle.layout.proofs.Moves.{width_by}
 use Rattle.slices.proofs.Tests.{or-false}
 use Rattle.layout.proofs.Apart.{least_before, placed_law, ApartBySums, apart_sums}
@@ -152,9 +152,9 @@ module _ (n : ℕ) (ss : List Section) (in_table : Never ss (short_at n ss)) whe
       names_same n f g (section_at ss i) same (or-false (places_some (leb n) (section_at ss i)) (names_some (leb n) (section_at ss i)) (in_table i l)).1
 
   -- where every mark below n is placed, none of them is said
-  pub none_unplaced : ((m : ℕ) → m < n → placed ss m ≡ true) → length ss ≡ first_unplaced ss
-  unfolding first_unplaced unplaced_at
-  none_unplaced all = sym ((never_law ss (unplaced_at ss)).1 never)
+  pub none_unplaced : ((m : ℕ) → m < n → placed ss m ≡ true) → Never ss (unplaced_at ss)
+  unfolding unplaced_at
+  none_unplaced all i l = named_same (λ m. not (placed ss m)) (λ m. false) (λ m k. ap not (all m k)) i l ∙ none (section_at ss i)
     where
       none : (s : Section) → names_some (λ m. false) s ≡ false
       none (mark m) = refl
@@ -165,9 +165,6 @@ module _ (n : ℕ) (ss : List Section) (in_table : Never ss (short_at n ss)) whe
           none-mark : (mr : MarkReference) → some_mark (λ m. false) mr ≡ false
           none-mark (Direct m) = refl
           none-mark (Delta s) = refl
-
-      never : Never ss (unplaced_at ss)
-      never i l = named_same (λ m. not (placed ss m)) (λ m. false) (λ m k. ap not (all m k)) i l ∙ none (section_at ss i)
 
 -- a mark's entry is 0
 abbrev pub zero_at : List ℕ → ℕ → Bool
@@ -214,7 +211,7 @@ module _ (n : ℕ) (ss : List Section) (table : List ℕ) (is : table ≡ first_
   entry_placed m l = ap not (zero_unplaced m l) ∙ not-not (placed ss m)
 
   -- where no entry is 0, it is never said
-  pub all_placed_lem : length table ≡ n → all_placed table ≡ true → length ss ≡ first_unplaced ss
+  pub all_placed_lem : length table ≡ n → all_placed table ≡ true → Never ss (unplaced_at ss)
   unfolding all_placed
   all_placed_lem long h = none_unplaced n ss in_table all
     where

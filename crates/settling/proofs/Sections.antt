@@ -25,13 +25,10 @@ use Rattle.undamaged.specs.View.{Undamaged, Facts}
 use Rattle.undamaged.specs.declared.store.UndamagedStore.{UndamagedStore}
 use Rattle.undamaged.proofs.Soundness.{undamaged_iff}
 use Rattle.undamaged.proofs.Sections.{decode_snoc, span_stored}
-use Rattle.slices.proofs.First.{NoneBefore, least_same, least_from_least}
 use Rattle.layout.specs.Passes.{value_by}
-use Rattle.layout.specs.Conditions.{section_at, first, Never, sum_of, stored_in, placed, short_at, unplaced_at, missing_at, delta_at, backward_at, first_backward}
-use Rattle.layout.proofs.Least.{never_law}
+use Rattle.layout.specs.Conditions.{section_at, sum_of, stored_in, placed, short_at, unplaced_at, missing_at, delta_at, backward_at}
 use Rattle.layout.proofs.Moves.{width_by}
 use Rattle.layout.proofs.Apart.{least_before}
-use Rattle.layout.proofs.Premises.{never_backward}
 use Rattle.layout.proofs.WidthRule.{width_rule, size_five}
 use Rattle.settling.specs.SectionWalk.{sections_of, sections_in, MarksFit, Whole, Fitting, short_words, MarksIn, missing_words, backward_words}
 use Rattle.settling.proofs.SectionWords.{Words, mark_words, ops_words, data_words, direct_words, delta_words, words_read, size_section, short_words_lem, named_kind, missing_words_lem, backward_words_lem, delta_kind_lem, marks_in}
@@ -203,11 +200,6 @@ pub delta_test : (ss : List Section) (i : ℕ) (x : StoredSection) → Turn ss i
 unfolding delta_at
 delta_test ss i x t = delta_kind_lem t.words
 
--- without a delta there is no 12
-pub none_backward : (table : List ℕ) (ss : List Section) → Never ss (delta_at ss) → length ss ≡ first_backward table ss
-unfolding first_backward
-none_backward table ss h = sym ((never_law ss (backward_at table ss)).1 (never_backward table ss h))
-
 module _ (store : Assembler) (held words : List ℕ) (u : Whole store held words) where
   abbrev facts : Facts words_per_section (store_of store held words)
   facts = (undamaged_iff words_per_section (store_of store held words)).0 u
@@ -264,12 +256,3 @@ sections_same store counts held words same =
     ap (λ (x : Assembler). sections_of x store.bytes.now store.words.now) same.0
     ∙ ap (λ (x : List ℕ). sections_of counts x store.words.now) same.1
     ∙ ap (sections_of counts held) same.2
-
--- where the walk of a search comes to: the first section with a property
-pub first_found : (store : UndamagedStore) (test : ℕ → Bool) (i : ℕ) → i ≤ store.counts.sections → NoneBefore test i
-    → (i < store.counts.sections → test i ≡ true) → i ≡ first (sections_in store) test
-first_found store test i within none one =
-    let count = sections_count store in
-    least_same test (length (sections_in store)) 0 i _
-    (record { above = omega arith; within = omega (arith, count); none = λ j a b. none j b; holds = λ l. one (omega (arith, count)) })
-    (least_from_least test (length (sections_in store)) 0)

@@ -1,10 +1,9 @@
 -- How the searches and the passes make the answer: one law for each way that the code goes, on plain variables. Assumes nothing.
-use Prim.Native.Nat.{ℕ, ◌≤◌, ◌<◌}
+use Prim.Native.Nat.{ℕ}
 use native.Mathlib.Omega.{arith}
 use mathlib.Core.Path.{◌≡◌, refl, sym, ap, ◌∙◌, subst}
 use mathlib.Core.List.{List}
-use lib.ListN.{length, replicate}
-use borrow.Author.Tests.{lt-ltb, le-ltb}
+use lib.ListN.{replicate}
 use Rattle.std.specs.Prelude.{Result, Ok, Err}
 use Rattle.units.specs.Replies.{max_passes}
 use Rattle.units.specs.Reply.{Reply, numbers_reply}
@@ -15,10 +14,11 @@ use Rattle.records.specs.Damage.{whole_soundness}
 use Rattle.records.specs.Sections.{Section, decode}
 use Rattle.records.specs.Damage.{Soundness}
 use Rattle.layout.specs.Passes.{start, Settling, settled, narrow_at, unsettled, passes, settle}
-use Rattle.layout.specs.Conditions.{Missing, direct_mark, delta_start, delta_end, first_backward}
+use Rattle.layout.specs.Conditions.{Missing, direct_mark, delta_start, delta_end, IsFirst, Never, backward_at, first_backward}
 use Rattle.layout.specs.Answer.{LayoutRefusal, unplaced, backward, Answer, no_layout, settling_answer, answer, Sound, Says}
 use Rattle.layout.specs.Answer.{layout_numbers, Laid, answer_reply, answer_table}
 use Rattle.layout.proofs.Answers.{sound_answer, answer_law}
+use Rattle.layout.proofs.Least.{first_hit, first_miss}
 use Rattle.settling.specs.SectionWalk.{missing_refusal, passes_reply, passes_table}
 use Rattle.settling.specs.Settle.{settlement, settling, settled_reply}
 
@@ -64,23 +64,25 @@ module _ (n : ℕ) (ss : List Section) (reply : Result LaidOut Refusal) (table :
 
   -- backward at b
   pub placed_backward : (s : Settling) (laid : LaidOut) (b : ℕ) (cleared : List ℕ) → reply ≡ passes_reply s → table ≡ passes_table n s → reply ≡ Ok laid
-      → b ≡ first_backward table ss → b < length ss → cleared ≡ replicate n 0 → Answers n (settling_answer ss s) (numbers_reply (layout_numbers (backward b laid.passes))) cleared
-  placed_backward (settled t sum j) laid b cleared replied left e h less c =
+      → IsFirst ss (backward_at table ss) b → cleared ≡ replicate n 0 → Answers n (settling_answer ss s) (numbers_reply (layout_numbers (backward b laid.passes))) cleared
+  unfolding first_backward
+  placed_backward (settled t sum j) laid b cleared replied left e first c =
       let same : ◌≡◌ {A = LaidOut} (record { length = sum; passes = j }) laid = let q : Ok (record { length = sum; passes = j }) ≡ Ok laid = sym replied ∙ e in cc in
-      let first : b ≡ first_backward t ss = h ∙ ap (λ (x : List ℕ). first_backward x ss) left in
+      let at-left : IsFirst ss (backward_at t ss) b = subst (λ (x : List ℕ). IsFirst ss (backward_at x ss) b) left first in
       answers_refused n (settling_answer ss (settled t sum j)) (backward b laid.passes) cleared
-      (rw (← first, lt-ltb b (length ss) less) (ap (λ (x : LaidOut). no_layout (backward b x.passes)) same)) c
-  placed_backward (narrow_at i j) laid b cleared replied left e h less c = let z : ◌≡◌ {A = ℕ} 0 1 = cc in absurd (omega arith)
-  placed_backward unsettled laid b cleared replied left e h less c = let z : ◌≡◌ {A = ℕ} 0 1 = cc in absurd (omega arith)
+      (first_hit ss (backward_at t ss) (λ i. no_layout (backward i j)) _ b at-left ∙ ap (λ (x : LaidOut). no_layout (backward b x.passes)) same) c
+  placed_backward (narrow_at i j) laid b cleared replied left e first c = let z : ◌≡◌ {A = ℕ} 0 1 = cc in absurd (omega arith)
+  placed_backward unsettled laid b cleared replied left e first c = let z : ◌≡◌ {A = ℕ} 0 1 = cc in absurd (omega arith)
 
   -- laid out
-  pub placed_done : (s : Settling) (laid : LaidOut) (b : ℕ) → reply ≡ passes_reply s → table ≡ passes_table n s → reply ≡ Ok laid
-      → b ≡ first_backward table ss → length ss ≤ b → Answers n (settling_answer ss s) (settled_reply (Ok laid)) table
-  placed_done (settled t sum j) laid b replied left e h more =
-      let first : b ≡ first_backward t ss = h ∙ ap (λ (x : List ℕ). first_backward x ss) left in
-      rw (← first, le-ltb b (length ss) more) (ap settled_reply (sym e ∙ replied), left)
-  placed_done (narrow_at i j) laid b replied left e h more = let z : ◌≡◌ {A = ℕ} 0 1 = cc in absurd (omega arith)
-  placed_done unsettled laid b replied left e h more = let z : ◌≡◌ {A = ℕ} 0 1 = cc in absurd (omega arith)
+  pub placed_done : (s : Settling) (laid : LaidOut) → reply ≡ passes_reply s → table ≡ passes_table n s → reply ≡ Ok laid
+      → Never ss (backward_at table ss) → Answers n (settling_answer ss s) (settled_reply (Ok laid)) table
+  unfolding first_backward
+  placed_done (settled t sum j) laid replied left e never =
+      let none : Never ss (backward_at t ss) = subst (λ (x : List ℕ). Never ss (backward_at x ss)) left never in
+      subst (λ (a : Answer). Answers n a (settled_reply (Ok laid)) table) (sym (first_miss ss (backward_at t ss) (λ i. no_layout (backward i j)) _ none)) (ap settled_reply (sym e ∙ replied), left)
+  placed_done (narrow_at i j) laid replied left e never = let z : ◌≡◌ {A = ℕ} 0 1 = cc in absurd (omega arith)
+  placed_done unsettled laid replied left e never = let z : ◌≡◌ {A = ℕ} 0 1 = cc in absurd (omega arith)
 
 -- ---- 6
 

@@ -2,21 +2,22 @@
 -- found it so far. Assumes nothing.
 use Prim.Native.Nat.{ℕ, zero, suc, ◌+◌, ◌-◌, ◌≤◌, ◌<◌}
 use native.Mathlib.Omega.{arith}
-use mathlib.Core.Path.{◌≡◌, refl, sym, ap, ap₂, ◌∙◌}
+use mathlib.Core.Path.{◌≡◌, refl, sym, ap, ap₂, ◌∙◌, subst}
 use mathlib.Core.Bool.{Bool, true, false, cond, not}
 use mathlib.Core.List.{List, [], ◌∷◌}
-use mathlib.Core.Logic.{◌⊎◌, inl, inr}
-use lib.Dec.{eqb, ltb}
+use lib.Dec.{eqb}
 use lib.ListN.{length, get_or, set, drop, replicate, length-set}
 use lib.Seq.{get_or-set_same, ext_get_or}
-use borrow.Author.Tests.{eqb-true, eqb-false, lt-ltb, le-ltb, ltb-false, not-false}
-use Rattle.slices.specs.First.{least_from}
-use Rattle.slices.proofs.First.{NoneBefore, search_start, search_next, search_hit, search_done}
+use borrow.Author.Tests.{eqb-true, eqb-false, not-false}
+use Rattle.std.specs.Prelude.{Option, Some, None}
+use Rattle.std.specs.Option.{option_or}
+use Rattle.std.specs.Bool.{then_some}
+use Rattle.slices.proofs.First.{NoneBefore, search_next}
 use Rattle.records.specs.Sections.{Section, mark}
 use Rattle.layout.specs.Passes.{entry, start_from}
 use Rattle.layout.specs.Conditions.{section_at, apart_at}
 use Rattle.layout.proofs.Apart.{least_before}
-use Rattle.settling.specs.SectionWalk.{place_mark, place_from, first_sums, less_one}
+use Rattle.settling.specs.SectionWalk.{Found, place_mark, place_from, first_sums, less_one}
 use Rattle.settling.proofs.Turns.{start_at}
 use Rattle.settling.proofs.FirstPlacings.{place_kept, apart_test}
 
@@ -96,41 +97,30 @@ module _ (table : List ℕ) (m sum : ℕ) (l : m < length table) where
         ap (λ (x : List ℕ). entry x m) (sym whole) ∙ place_kept (drop (i + 1) ss) sum (place_mark table m sum) m placed_not_zero in
         ap₂ (λ (x y : ℕ). not (eqb x (y + 1))) (sym kept) d ∙ apart_test n ss i m k e h
 
--- ---- the first one so far
+-- ---- the first of the numbers before i that a test holds of, if there is one
 
--- none among those before i; or the first of all
-abbrev pub SoFar : ℕ → (ℕ → Bool) → ℕ → ℕ → Type 0
-SoFar k test i found = ((found ≡ k) × NoneBefore test i) ⊎ ((found < i) × (found ≡ least_from test k 0))
+abbrev pub SoFar : (ℕ → Bool) → ℕ → Option ℕ → Type 0
+SoFar test i (Some j) = (j < i) × (test j ≡ true) × NoneBefore test j
+SoFar test i None = NoneBefore test i
 
-pub so_start : (k : ℕ) (test : ℕ → Bool) → SoFar k test 0 k
-so_start k test = inl (refl, search_start test)
+-- one number more
+pub so_next : (test : ℕ → Bool) (i : ℕ) (found found' : Option ℕ) (q : Bool) → SoFar test i found → test i ≡ q → found' ≡ option_or found (then_some q i) → SoFar test (i + 1) found'
+so_next test i (Some j) found' q h e d = subst (SoFar test (i + 1)) (sym d) (omega (arith, h.0), h.1, h.2)
+so_next test i None found' true h e d = subst (SoFar test (i + 1)) (sym d) (omega arith, e, h)
+so_next test i None found' false h e d = subst (SoFar test (i + 1)) (sym d) (search_next test i h e)
 
-pub so_next : (k : ℕ) (test : ℕ → Bool) (i found found' : ℕ) (q : Bool) → SoFar k test i found → i < k → test i ≡ q → found' ≡ cond q (cond (ltb i found) i found) found → SoFar k test (i + 1) found'
-so_next k test i found found' true (inl h) l e d =
-    let s : ltb i found ≡ true = lt-ltb i found (omega (arith, h.0)) in
-    let r : found' ≡ i = rw s at d in
-    inr (omega (arith, r), r ∙ search_hit test k i h.1 l e)
-so_next k test i found found' true (inr h) l e d =
-    let s : ltb i found ≡ false = le-ltb i found (omega (arith, h.0)) in
-    let r : found' ≡ found = rw s at d in
-    inr (omega (arith, r, h.0), r ∙ h.1)
-so_next k test i found found' false (inl h) l e d = inl (d ∙ h.0, search_next test i h.1 e)
-so_next k test i found found' false (inr h) l e d = inr (omega (arith, d, h.0), d ∙ h.1)
-
-pub so_done : (k : ℕ) (test : ℕ → Bool) (i found : ℕ) → SoFar k test i found → i ≤ k → k ≤ i → found ≡ least_from test k 0
-so_done k test i found (inl h) u l =
-    let e : found ≡ i = omega (arith, h.0) in
-    e ∙ search_done test k i h.1 u l
-so_done k test i found (inr h) u l = h.1
+-- it isn't one
+pub so_same : (test : ℕ → Bool) (i : ℕ) (found found' : Option ℕ) → SoFar test i found → test i ≡ false → found' ≡ found → SoFar test (i + 1) found'
+so_same test i (Some j) found' h e d = subst (SoFar test (i + 1)) (sym d) (omega (arith, h.0), h.1, h.2)
+so_same test i None found' h e d = subst (SoFar test (i + 1)) (sym d) (search_next test i h e)
 
 -- none so far, none found
-pub so_none : (k i found found' : ℕ) (q : Bool) → i < k → found' ≡ cond q (cond (ltb i found) i found) found → k ≤ found' → (q ≡ false) × (k ≤ found)
-so_none k i found found' true l d h = go (ltb i found) refl d
-  where
-    go : (b : Bool) → ltb i found ≡ b → found' ≡ cond b i found → (true ≡ false) × (k ≤ found)
-    go true e f = absurd (omega arith)
-    go false e f = absurd (omega (arith, ltb_no e))
-      where
-        ltb_no : ltb i found ≡ false → found ≤ i
-        ltb_no x = ltb-false i found x
-so_none k i found found' false l d h = (refl, omega arith)
+pub so_none : (found : Option ℕ) (i : ℕ) (q : Bool) → option_or found (then_some q i) ≡ None → (q ≡ false) × (found ≡ None)
+so_none (Some j) i q h = let z : ◌≡◌ {A = ℕ} 0 1 = cc in absurd (omega arith)
+so_none None i true h = let z : ◌≡◌ {A = ℕ} 0 1 = cc in absurd (omega arith)
+so_none None i false h = (refl, refl)
+
+-- of all sections
+pub so_found : (ss : List Section) (test : ℕ → Bool) (i : ℕ) (found : Option ℕ) → SoFar test i found → i ≡ length ss → Found ss test found
+so_found ss test i (Some j) h e = (omega (arith, h.0), h.1, h.2)
+so_found ss test i None h e = λ j l. h j (omega arith)

@@ -1,7 +1,7 @@
 -- What the functions inside settling go by, and those of `tables` and of the writer of code: the store that they are lent, a section by its
 -- three words, the table of first placings, and the passes' reply. proofs/ has that each is what layout/specs says of the decoded sections.
 -- Assumes nothing.
-use Rattle.std.specs.Prelude.{Result, Ok, Err, Option, Some, ℕ, ◌+◌, ◌-◌, ◌≤◌, ◌<◌, ◌≡◌, Bool, false, cond, not, ◌&&◌, ◌||◌, List, [], ◌∷◌, leb, ltb, eqb, length, set, replicate}
+use Rattle.std.specs.Prelude.{Result, Ok, Err, Option, Some, None, ℕ, ◌+◌, ◌-◌, ◌≤◌, ◌<◌, ◌≡◌, Bool, false, cond, not, ◌&&◌, ◌||◌, List, [], ◌∷◌, leb, ltb, eqb, length, set, replicate}
 use Rattle.units.specs.Reference.{least_size}
 use Rattle.units.specs.Form.{least_by_form, size_by_form}
 use Rattle.units.specs.declared.reply.LaidOut.{LaidOut}
@@ -14,7 +14,7 @@ use Rattle.records.specs.declared.record.StoredSection.{StoredSection}
 use Rattle.undamaged.specs.View.{Undamaged}
 use Rattle.undamaged.specs.declared.store.UndamagedStore.{UndamagedStore}
 use Rattle.layout.specs.Passes.{entry, start, Walked, through, left_at, Settling, settled, narrow_at, unsettled, settle}
-use Rattle.layout.specs.Conditions.{Never, some_below, short_at, Missing, direct_mark, delta_start, delta_end, delta_at, first_apart}
+use Rattle.layout.specs.Conditions.{IsFirst, Never, some_below, short_at, Missing, direct_mark, delta_start, delta_end, delta_at, apart_at}
 use Rattle.layout.specs.Answer.{Answer, settling_answer}
 use Rattle.settling.specs.declared.passes.Pass.{Pass}
 use Rattle.settling.specs.declared.table.Placings.{Placings}
@@ -41,6 +41,13 @@ Whole store held words = Undamaged words_per_section (store_of store held words)
 pub record Fitting (store : Assembler) (held words : List ℕ) (n : ℕ) : Type 0 where
   pub whole : Whole store held words
   pub in_table : Never (sections_of store held words) (short_at n (sections_of store held words))
+
+-- ---- the searches
+
+-- what a search answers: the first section with a property, or that none has it
+abbrev pub Found : List Section → (ℕ → Bool) → Option ℕ → Type 0
+Found ss test (Some i) = IsFirst ss test i
+Found ss test None = Never ss test
 
 -- ---- one section by its three words: in an undamaged store a kind below Direct that isn't a mark is Ops or Data, one above it a delta
 
@@ -113,11 +120,12 @@ unfoldable pub less_one : List ℕ → List ℕ
 less_one [] = []
 less_one (x ∷ xs) = (x - 1) ∷ less_one xs
 
--- what the walk of the placings leaves where no section is short, by a table of length n
+-- what the walk of the placings leaves where it goes through, by a table of length n
 pub record Placed (n : ℕ) (ss : List Section) (found : Placings) (table : List ℕ) : Type 0 where
-  pub apart : found.apart ≡ first_apart ss
+  pub in_table : MarksFit ss n
+  pub apart : Found ss (apart_at ss) found.apart
   pub sums : table ≡ first_sums n ss
-  pub started : length ss ≤ found.apart → less_one table ≡ start n ss
+  pub started : found.apart ≡ None → less_one table ≡ start n ss
   -- no delta met: 'every reference be direct'
   pub direct : found.has_delta ≡ false → Never ss (delta_at ss)
 

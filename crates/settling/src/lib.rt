@@ -22,8 +22,14 @@ use crate::search::{first_backward, first_unplaced};
 use crate::table::{less_one, place};
 use records::Assembler;
 pub use search::{is_backward, is_short, missing_refusal};
-pub use section::{entry_of, size_of, span_length};
+pub use 
+<<<<<<< /tmp/wm.2
+section::{entry_of, size_of, span_length};
 pub use table::{clear, earlier};
+=======
+table::clear;
+>>>>>>> /tmp/wm.3
+
 use undamaged::UndamagedStore;
 use units::{LaidOut, MarkId, Refusal};
 
@@ -60,18 +66,15 @@ fn settle_whole(store: UndamagedStore, table: &mut [u32]) -> Result<LaidOut, Ref
         ≡ answer_table (length table.old)
         (answer (length table.old) (sections_in store.entry)) }
 {
-    let found = place(store, table);
-    let short = found.short;
-    if short < store.counts.sections {
-        return refuse(table, Refusal::ShortTable { section: short });
+    let found = match place(store, table) {
+        Ok(found) => found,
+        Err(section) => return refuse(table, Refusal::ShortTable { section }),
+    };
+    if let Some(section) = first_unplaced(store, table) {
+        return refuse_unplaced(store, table, section);
     }
-    let unplaced = first_unplaced(store, table);
-    if unplaced < store.counts.sections {
-        return refuse_unplaced(store, table, unplaced);
-    }
-    let apart = found.apart;
-    if apart < store.counts.sections {
-        return refuse(table, Refusal::PlacedApart { section: apart });
+    if let Some(section) = found.apart {
+        return refuse(table, Refusal::PlacedApart { section });
     }
     settle_placed(store, table, found.has_delta)
 }
@@ -110,10 +113,9 @@ fn settle_placed(
 {
     less_one(table);
     let laid = run_passes(store, table)?;
-    let backward = first_backward(store, table, has_delta);
-    if backward < store.counts.sections {
+    if let Some(section) = first_backward(store, table, has_delta) {
         let refusal = Refusal::Backward {
-            section: backward,
+            section,
             passes: laid.passes,
         };
         return refuse(table, refusal);

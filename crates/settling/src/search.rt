@@ -1,9 +1,8 @@
-// The test for 7 of one section, and the searches for 8, 17 or 18 and for 12: the first section with a property, the count of sections if
-// there is none.
-ghost use Rattle.std.specs.Prelude.{◌≡◌, ℕ, ◌<◌, ◌≤◌, leb, length, true, false};
+// The test for 7 of one section, and the searches for 8, 17 or 18 and for 12: the first section with a property, if there is one.
+ghost use Rattle.std.specs.Prelude.{◌≡◌, ℕ, ◌<◌, Bool, leb, length, false};
 ghost use Rattle.records.specs.Store.{words_per_section, words_at};
-ghost use Rattle.layout.specs.Conditions.{Never, delta_at, first_unplaced, first_backward};
-ghost use Rattle.settling.specs.SectionWalk.{sections_in, MarksFit, short_words, unplaced_words, backward_words};
+ghost use Rattle.layout.specs.Conditions.{Never, delta_at, unplaced_at, backward_at};
+ghost use Rattle.settling.specs.SectionWalk.{sections_in, MarksFit, Found, short_words, unplaced_words, backward_words};
 ghost use Rattle.settling.specs.SectionWalk.{first_sums, all_placed, missing_words, missing_refusal};
 
 use crate::section::entry_of;
@@ -63,31 +62,30 @@ fn all_placed(table: &[u32]) -> bool
     !table.contains(&0)
 }
 
-// The first section with a property; the count of sections if there is none.
-// Kept: no Option, since the definitions of 7 to 9 and 12 that searches are equated with answer the count too (layout, Conditions).
-fn first_section<F: Fn(StoredSection) -> bool>(store: UndamagedStore, is_one: F) -> u32
+// The first section with a property, by a closure that tests for it.
+fn first_section<F: Fn(StoredSection) -> bool>(store: UndamagedStore, is_one: F) -> Option<u32>
     requires { (i : ℕ) → i < store.counts.sections → F.pre is_one (words_at words_per_section store.words.now i) }
-    ensures within { result ≤ store.entry.counts.sections }
-    ensures none { (i : ℕ) → i < result → F.post is_one (words_at words_per_section store.entry.words.now i) false }
-    ensures one { result < store.entry.counts.sections
-        → F.post is_one (words_at words_per_section store.entry.words.now result) true }
+    ensures { (test : ℕ → Bool)
+        → ((i : ℕ) (b : Bool) → i < store.entry.counts.sections
+        → F.post is_one (words_at words_per_section store.entry.words.now i) b → test i ≡ b)
+        → Found (sections_in store.entry) test result }
 {
     for i in 0..store.counts.sections {
         if is_one(store.section(i)) {
-            return i;
+            return Some(i);
         }
     }
-    store.counts.sections
+    None
 }
 
 // The first reference to a mark that is never placed. Where all are placed, the sections need no walk.
-pub(crate) fn first_unplaced(store: UndamagedStore, table: &[u32]) -> u32
+pub(crate) fn first_unplaced(store: UndamagedStore, table: &[u32]) -> Option<u32>
     requires in_table { MarksFit (sections_in store) (length table.now) }
     requires table_value { table.now ≡ first_sums (length table.now) (sections_in store) }
-    ensures { result ≡ first_unplaced (sections_in store.entry) }
+    ensures { Found (sections_in store.entry) (unplaced_at (sections_in store.entry)) result }
 {
     if all_placed(table) {
-        return store.counts.sections;
+        return None;
     }
     first_section(store, |section| is_unplaced(section, table))
 }
@@ -118,14 +116,14 @@ pub fn is_backward(section: StoredSection, table: &[u32]) -> bool
 }
 
 // The first delta whose end is below its start. Where there is no delta, the sections need no walk.
-pub(crate) fn first_backward(store: UndamagedStore, table: &[u32], has_delta: bool) -> u32
+pub(crate) fn first_backward(store: UndamagedStore, table: &[u32], has_delta: bool) -> Option<u32>
     requires in_table { MarksFit (sections_in store) (length table.now) }
     requires never { has_delta ≡ false
         → Never (sections_in store) (delta_at (sections_in store)) }
-    ensures { result ≡ first_backward table.now (sections_in store.entry) }
+    ensures { Found (sections_in store.entry) (backward_at table.now (sections_in store.entry)) result }
 {
     if !has_delta {
-        return store.counts.sections;
+        return None;
     }
     first_section(store, |section| is_backward(section, table))
 }

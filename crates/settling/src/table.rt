@@ -1,7 +1,7 @@
 // The lent table: all 0, the table of first placings that 8, 17, 18 and 9 read, and the start table.
-ghost use Rattle.std.specs.Prelude.{◌≡◌, cond, not, ◌+◌, ◌-◌, ◌≤◌, ◌<◌, eqb, ltb, length, replicate};
+ghost use Rattle.std.specs.Prelude.{◌≡◌, not, ◌+◌, ◌-◌, ◌≤◌, ◌<◌, eqb, length, replicate, MatchResult};
 ghost use Rattle.layout.specs.Passes.{entry};
-ghost use Rattle.layout.specs.Conditions.{Never, short_at, first_short};
+ghost use Rattle.layout.specs.Conditions.{IsFirst, short_at};
 ghost use Rattle.settling.specs.SectionWalk.{sections_in, place_mark, Placed, less_one};
 
 use crate::search::is_short;
@@ -32,57 +32,39 @@ fn place_mark(table: &mut [u32], mark: MarkId, sum: u32) -> bool
     was != sum + 1
 }
 
-// The earlier of what was found and i, if i is one.
-pub fn earlier(found: u32, i: u32, is_one: bool) -> u32
-    ensures { result ≡ cond is_one (cond (ltb i found) i found) found }
-{
-    if is_one { found.min(i) } else { found }
-}
-
-// What the walk of the placings finds. The first section with a mark at or past the table's length, at which it stops; the first placing
-// with bytes between it and an earlier one; each the count of sections if there is none. And whether it met a delta.
-// Kept: no Options, for the reason of `search::first_section`; and `earlier`, which keeps the first one apart, compares numbers.
+// What the walk of the placings finds: the first placing with bytes between it and an earlier one; and whether it met a delta.
 #[derive(Clone, Copy)]
 pub(crate) struct Placings {
-    pub(crate) short: u32,
-    pub(crate) apart: u32,
+    pub(crate) apart: Option<u32>,
     pub(crate) has_delta: bool,
 }
 
-// The table of first placings. 7 and 9 are looked for on the way, so that neither needs a walk of its own.
-pub(crate) fn place(store: UndamagedStore, table: &mut [u32]) -> Placings
+// The table of first placings. Err: the first section with a mark at or past the table's length, at which it stops. This 7 and 9 are looked
+// for on the way, so that neither needs a walk of its own.
+pub(crate) fn place(store: UndamagedStore, table: &mut [u32]) -> Result<Placings, u32>
     requires table_value { table.old ≡ replicate (length table.old) 0 }
-    ensures short { result.short ≡ first_short (length table.old) (sections_in store.entry) }
-    ensures placed { Never (sections_in store.entry)
-        (short_at (length table.old) (sections_in store.entry))
-        → Placed (length table.old) (sections_in store.entry) result table.new }
+    ensures { MatchResult result
+        (λ found. Placed (length table.old) (sections_in store.entry) found table.new)
+        (λ at. IsFirst (sections_in store.entry) (short_at (length table.old) (sections_in store.entry)) at) }
 {
     let limit = table.len();
     let mut sum: u32 = 0;
-    let mut apart = store.counts.sections;
+    let mut apart = None;
     let mut has_delta = false;
     for i in 0..store.counts.sections {
         let section = store.section(i);
         if is_short(section, limit) {
-            return Placings {
-                short: i,
-                apart,
-                has_delta,
-            };
+            return Err(i);
         }
         has_delta |= kind::DIRECT < section.kind;
         if section.kind == kind::MARK {
             let is_apart = place_mark(table, MarkId(section.first), sum);
-            apart = earlier(apart, i, is_apart);
+            apart = apart.or(is_apart.then_some(i));
         } else {
             sum += least_size(section);
         }
     }
-    Placings {
-        short: store.counts.sections,
-        apart,
-        has_delta,
-    }
+    Ok(Placings { apart, has_delta })
 }
 
 // Every entry that isn't 0 less 1: of the table of first placings the start table, where none is apart.

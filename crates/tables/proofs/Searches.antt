@@ -19,10 +19,9 @@ use Rattle.records.specs.Sections.{Section, mark}
 use Rattle.records.specs.Store.{words_per_section, words_at}
 use Rattle.undamaged.specs.declared.store.UndamagedStore.{UndamagedStore}
 use Rattle.records.specs.declared.record.StoredSection.{StoredSection}
-use Rattle.layout.specs.Conditions.{section_at, Never, names_some, placed, short_at, unplaced_at, first_unplaced, has_bytes, apart_at}
+use Rattle.layout.specs.Conditions.{section_at, Never, names_some, placed, short_at, unplaced_at, has_bytes, apart_at}
 use Rattle.layout.specs.ConditionLaws.{HasBytes, BytesBetween}
 use Rattle.layout.proofs.Apart.{placed_law}
-use Rattle.layout.proofs.Least.{never_law}
 use Rattle.layout.proofs.ConditionLaws.{bytes_law, condition_laws}
 use Rattle.settling.specs.SectionWalk.{sections_in, MarksFit, MarksIn}
 use Rattle.settling.proofs.SectionWords.{Words, mark_words, ops_words, data_words, direct_words, delta_words, named_words}
@@ -89,8 +88,7 @@ module _ (ss : List Section) (n : ℕ) (map : List ℕ) (h : Marked ss n map) (c
 
   -- where every mark that a table of length k has an entry for is in the map, it is never said
   pub all_in : (k : ℕ) → Never ss (short_at k ss) → ((m : ℕ) → m < k → in_map map m ≡ true) → Never ss (unplaced_at ss)
-  unfolding first_unplaced
-  all_in k in_table every = (never_law ss (unplaced_at ss)).0 (sym (none_unplaced k ss in_table (λ m l. sym (in_placed m (in_room map m (every m l))) ∙ every m l)))
+  all_in k in_table every = none_unplaced k ss in_table (λ m l. sym (in_placed m (in_room map m (every m l))) ∙ every m l)
 
 -- so of a section's words in an undamaged store, whose marks the table has entries for
 pub code_unplaced : (store : UndamagedStore) (n room : ℕ) (map : List ℕ) → MarksFit (sections_in store) n → Covers n room → length map ≡ room

@@ -8,7 +8,6 @@ use mathlib.Core.List.{List}
 use lib.ListN.{length}
 use borrow.Author.Tests.{eq-eqb, ne_eqb}
 use Rattle.std.proofs.Common.{Option, Some, None}
-use Rattle.slices.proofs.First.{NoneBefore, search_next}
 use Rattle.records.specs.declared.record.AsmSection.{AsmSection}
 use Rattle.units.proofs.Forms.{size_found, narrow_found}
 use Rattle.records.specs.Record.{read_section}
@@ -24,9 +23,11 @@ use Rattle.layout.specs.Conditions.{section_at, places_some, short_at, backward_
 use Rattle.settling.specs.SectionWalk.{MarksIn}
 use Rattle.settling.proofs.SectionWords.{size_section, NotMark}
 use Rattle.settling.proofs.Sections.{sum_next}
+use Rattle.settling.proofs.StartTable.{SoFar}
+use Rattle.settling.proofs.StartTable.{so_next as next_or}
 use Rattle.tables.specs.MarkMap.{Covers}
 use Rattle.tables.specs.TableTests.{sum_before, differs_at, narrow_by, too_narrow_at, wrong_at}
-use Rattle.tables.specs.TableWalk.{Found, earlier, stops_at}
+use Rattle.tables.specs.TableWalk.{earlier, stops_at}
 
 -- ---- marks
 
@@ -53,27 +54,12 @@ pub marks_covered : (n room : ℕ) (x : StoredSection) → Covers n room → Mar
 marks_covered n room x h a b =
     record { placed = λ e. omega (arith, a.placed e, b.placed e); first = λ e. omega (arith, a.first e, b.first e); second = λ e. omega (arith, a.second e, b.second e) }
 
--- ---- the first of the numbers before i that a test holds of, if there is one
+-- ---- the first of the numbers before i that a test holds of, with one number more
 
-abbrev pub SoFar : (ℕ → Bool) → ℕ → Option ℕ → Type 0
-SoFar test i (Some j) = (j < i) × (test j ≡ true) × NoneBefore test j
-SoFar test i None = NoneBefore test i
-
--- one number more
 pub so_next : (test : ℕ → Bool) (i : ℕ) (found found' : Option ℕ) (q : Bool) → SoFar test i found → test i ≡ q → found' ≡ earlier found i q → SoFar test (i + 1) found'
-so_next test i (Some j) found' q h e d = subst (SoFar test (i + 1)) (sym d) (omega (arith, h.0), h.1, h.2)
-so_next test i None found' true h e d = subst (SoFar test (i + 1)) (sym d) (omega arith, e, h)
-so_next test i None found' false h e d = subst (SoFar test (i + 1)) (sym d) (search_next test i h e)
-
--- it isn't one
-pub so_same : (test : ℕ → Bool) (i : ℕ) (found found' : Option ℕ) → SoFar test i found → test i ≡ false → found' ≡ found → SoFar test (i + 1) found'
-so_same test i (Some j) found' h e d = subst (SoFar test (i + 1)) (sym d) (omega (arith, h.0), h.1, h.2)
-so_same test i None found' h e d = subst (SoFar test (i + 1)) (sym d) (search_next test i h e)
-
--- of all sections
-pub so_found : (ss : List Section) (test : ℕ → Bool) (i : ℕ) (found : Option ℕ) → SoFar test i found → i ≡ length ss → Found ss test found
-so_found ss test i (Some j) h e = (omega (arith, h.0), h.1, h.2)
-so_found ss test i None h e = λ j l. h j (omega arith)
+so_next test i (Some j) found' q h e d = next_or test i (Some j) found' q h e d
+so_next test i None found' true h e d = next_or test i None found' true h e d
+so_next test i None found' false h e d = next_or test i None found' false h e d
 
 -- ---- 7, 16 and 10 of section i, the sum of sizes before it being what the walk has
 

@@ -5,6 +5,7 @@ use Rattle.records.specs.Sections.{Section}
 use Rattle.records.specs.declared.record.StoredSection.{StoredSection}
 use Rattle.layout.specs.Passes.{entry, size_by}
 use Rattle.layout.specs.Conditions.{IsFirst, Never, short_at, backward_at, sum_of}
+use Rattle.settling.specs.SectionWalk.{Found}
 use Rattle.tables.specs.TableTests.{wrong_at}
 use Rattle.tables.specs.MarkMap.{in_map, Marked}
 use Rattle.tables.specs.declared.compare.Agreed.{Agreed}
@@ -16,11 +17,6 @@ NoneTo test i = (j : ℕ) → j < i → test j ≡ false
 -- the walk stops at section i: 7, 16 or 10
 abbrev pub stops_at : List ℕ → List Section → ℕ → Bool
 stops_at table ss i = short_at (length table) ss i || wrong_at table ss i
-
--- what a search answers: the first section with a property, or that none has it
-abbrev pub Found : List Section → (ℕ → Bool) → Option ℕ → Type 0
-Found ss test (Some i) = IsFirst ss test i
-Found ss test None = Never ss test
 
 -- what was found, or else section i if it is one
 abbrev pub earlier : Option ℕ → ℕ → Bool → Option ℕ

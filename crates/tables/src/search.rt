@@ -2,9 +2,9 @@
 // stopped, 9. Each search answers the first section with a property, if there is one.
 ghost use Rattle.std.specs.Prelude.{◌≡◌, ◌*◌, ◌≤◌, length, replicate};
 ghost use Rattle.layout.specs.Conditions.{short_at, unplaced_at, apart_at};
-ghost use Rattle.settling.specs.SectionWalk.{sections_in, MarksFit, MarksIn};
+ghost use Rattle.settling.specs.SectionWalk.{sections_in, MarksFit, MarksIn, Found};
 ghost use Rattle.tables.specs.MarkMap.{Covers, Marked};
-ghost use Rattle.tables.specs.TableWalk.{NoneTo, Found, unplaced_by, bytes_words};
+ghost use Rattle.tables.specs.TableWalk.{NoneTo, unplaced_by, bytes_words};
 
 use crate::map::MarkMap;
 use records::{StoredSection, kind};

@@ -1,8 +1,7 @@
 -- The passes from the start table are the settling; 12 is judged on the table that they left.
 -- Assumes nothing.
 -- ---- the entry and the sections, seen from where the table is the start table
-use Prim.Native.Nat.{ℕ, ◌≤◌, ◌<◌}
-use native.Mathlib.Omega.{arith}
+use Prim.Native.Nat.{ℕ}
 use mathlib.Core.Path.{◌≡◌, sym, ap, ap₂, ◌∙◌, subst}
 use mathlib.Core.List.{List}
 use lib.ListN.{length, replicate}
@@ -15,7 +14,7 @@ use Rattle.settling.specs.Settle.{settled_reply}
 use Rattle.settling.proofs.Sections.{sections_count}
 use Rattle.settling.proofs.SettleAnswers.{settle_is, placed_refused, placed_backward, placed_done}
 use Rattle.settling.proofs.settle_placed.Goals as goal
-use Rattle.settling.proofs.settle_placed.Goals.{After-first_backward-backward, After-less_one, After-run_passes, In_ok-laid, Start}
+use Rattle.settling.proofs.settle_placed.Goals.{After-less_one, After-run_passes, In_ok-laid, Start}
 
 abbrev entry : goal.After-less_one → goal.Start
 entry c = (goal.at.After-less_one c).Start
@@ -47,10 +46,6 @@ passed c =
 kept : (c : goal.After-run_passes) → length c.run_passes.new.table ≡ long (started c)
 kept c = c.run_passes.auto.table ∙ (started c).less_one.auto.table
 
--- laid out, seen from the search for 12
-abbrev laid : goal.After-first_backward-backward → goal.In_ok-laid
-laid c = (goal.at.After-first_backward-backward c).In_ok-laid
-
 abbrev run : goal.In_ok-laid → goal.After-run_passes
 run c = (goal.at.In_ok-laid c).After-run_passes
 
@@ -66,20 +61,19 @@ returns-in_err-laid c =
     let p = err_from_is_err_and c.from_residual.result c.from_residual.ensures.1 in
     record { reply = ap settled_reply (p.1 ∙ ap Err p.2 ∙ sym c.in_err-laid.was) ∙ all.0; table = all.1 }
 
-pub first_backward-backward-requires : goal.first_backward-backward-requires
-first_backward-backward-requires c =
-    let r = run (goal.at.first_backward-backward-requires c).In_ok-laid in
+pub first_backward-requires : goal.first_backward-requires
+first_backward-requires c =
+    let r = run (goal.at.first_backward-requires c).In_ok-laid in
     record {
       in_table = subst (MarksFit _) (sym (kept r)) (entry (started r)).requires.in_table;
       never = (entry (started r)).requires.never;
     }
 
-pub returns-then-backward-store : goal.returns-then-backward-store
-returns-then-backward-store c =
-    let search-for = (goal.at.returns-then-backward-store c).After-first_backward-backward in
-    let r = run (laid search-for) in
-    let less : search-for.first_backward-backward.result < length (sections (started r)) = omega (arith, count (started r), c.if-backward-store.true) in
-    let answers = placed_backward _ _ _ _ (comes-to (started r)) _ _ _ (passed r).0 (passed r).1 (laid search-for).in_ok-laid.was search-for.first_backward-backward.ensures less
+pub returns-in-Some : goal.returns-in-Some
+returns-in-Some c =
+    let ok = (goal.at.returns-in-Some c).In_ok-laid in
+    let r = run ok in
+    let answers = placed_backward _ _ _ _ (comes-to (started r)) _ _ _ (passed r).0 (passed r).1 ok.in_ok-laid.was c.in-Some.ensures
     (c.refuse.ensures.table ∙ ap (λ (n : ℕ). replicate n 0) (kept r)) in
     record {
       reply = ap settled_reply c.refuse.ensures.reply ∙ answers.0;
@@ -88,8 +82,7 @@ returns-then-backward-store c =
 
 pub returns : goal.returns
 returns c =
-    let search-for = (goal.at.returns c).After-first_backward-backward in
-    let r = run (laid search-for) in
-    let more : length (sections (started r)) ≤ search-for.first_backward-backward.result = omega (arith, count (started r), c.if-backward-store.false) in
-    let all = placed_done _ _ _ _ (comes-to (started r)) _ _ (passed r).0 (passed r).1 (laid search-for).in_ok-laid.was search-for.first_backward-backward.ensures more in
+    let ok = (goal.at.returns c).In_ok-laid in
+    let r = run ok in
+    let all = placed_done _ _ _ _ (comes-to (started r)) _ (passed r).0 (passed r).1 ok.in_ok-laid.was c.in_default.ensures in
     record { reply = all.0; table = all.1 }

@@ -1,23 +1,17 @@
 -- Where all marks are placed, no reference is to an unplaced one; else the search. Assumes nothing.
-use native.Mathlib.Omega.{arith}
 use mathlib.Core.Path.{◌≡◌, refl, sym, ◌∙◌}
-use Prim.Native.Nat.{ℕ, ◌<◌}
-use mathlib.Core.Bool.{true, false}
-use mathlib.Core.List.{List}
 use lib.ListN.{length}
 use Rattle.std.proofs.Common.{rules}
 use Rattle.records.specs.Store.{words_per_section, words_at}
-use Rattle.records.specs.Sections.{Section}
-use Rattle.layout.specs.Conditions.{unplaced_at, first_unplaced}
+use Rattle.layout.specs.Conditions.{unplaced_at}
 use Rattle.settling.specs.SectionWalk.{sections_in, MarksIn, unplaced_words}
-use Rattle.settling.proofs.Sections.{sections_count, turn_at, marks_fit, first_found}
+use Rattle.settling.proofs.Sections.{turn_at, marks_fit}
 use Rattle.settling.proofs.FirstPlacings.{unplaced_test, all_placed_lem}
 use Rattle.settling.proofs.search.first_unplaced.Goals as goal
 
 pub returns-then-all_placed : goal.returns-then-all_placed
 returns-then-all_placed c =
-    sym (sections_count c.args.store)
-    ∙ all_placed_lem _ _ _ c.requires.table_value c.requires.in_table refl (sym c.all_placed.ensures ∙ c.if-all_placed.true)
+    all_placed_lem _ _ _ c.requires.table_value c.requires.in_table refl (sym c.all_placed.ensures ∙ c.if-all_placed.true)
 
 pub first_section-requires : goal.first_section-requires
 first_section-requires c = λ i l.
@@ -26,14 +20,10 @@ first_section-requires c = λ i l.
     search rules
 
 pub returns : goal.returns
-unfolding first_unplaced
 returns c =
     let s = c.args.store in
     let table = c.args.table.now in
-    let at : ℕ = c.first_section.result in
-    let ss : List Section = sections_in s in
-    let none : (i : ℕ) → i < at → unplaced_words table (words_at words_per_section s.words.now i) ≡ false = λ i l. let p = c.first_section.ensures.none i l in search rules in
-    let one : at < s.counts.sections → unplaced_words table (words_at words_per_section s.words.now at) ≡ true = λ l. let p = c.first_section.ensures.one l in search rules in
-    let same : (i : ℕ) → i < s.counts.sections → unplaced_words table (words_at words_per_section s.words.now i) ≡ unplaced_at ss i =
-    λ i l. unplaced_test _ _ _ c.requires.table_value c.requires.in_table i _ (turn_at s i _ l (λ k. refl)) in
-    first_found s (unplaced_at ss) at c.first_section.ensures.within (λ i l. sym (same i (omega (arith, c.first_section.ensures.within))) ∙ none i l) (λ l. sym (same at l) ∙ one l)
+    c.first_section.ensures (unplaced_at (sections_in s))
+    (λ i b l p.
+    let is : b ≡ unplaced_words table (words_at words_per_section s.words.now i) = search rules in
+    sym (is ∙ unplaced_test _ _ _ c.requires.table_value c.requires.in_table i _ (turn_at s i _ l (λ k. refl))))

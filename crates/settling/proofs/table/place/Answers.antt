@@ -4,25 +4,26 @@
 use Prim.Native.Nat.{ℕ, ◌+◌, ◌≤◌, ◌<◌}
 use native.Mathlib.Omega.{arith}
 use mathlib.Core.Path.{◌≡◌, refl, sym, ap, ap₂, ◌∙◌}
-use mathlib.Core.Bool.{false, ◌||◌, true≢false}
+use mathlib.Core.Bool.{false, ◌||◌}
 use mathlib.Core.List.{List}
 use lib.Dec.{ltb}
 use lib.ListN.{length, drop}
 use Rattle.units.specs.Reference.{least_size}
 use Rattle.records.specs.Record.{mark_kind, direct_kind}
 use Rattle.records.specs.Sections.{Section}
-use Rattle.slices.specs.First.{least_from}
-use Rattle.slices.proofs.First.{NoneBefore, search_start, search_next, search_hit, search_done}
+use Rattle.std.specs.Option.{option_or}
+use Rattle.std.specs.Bool.{then_some}
+use Rattle.slices.proofs.First.{NoneBefore, search_start, search_next}
 use Rattle.slices.proofs.Tests.{or-false}
 use Rattle.layout.specs.Passes.{start_from}
-use Rattle.layout.specs.Conditions.{section_at, short_at, first_short, apart_at, first_apart, delta_at, sum_of}
+use Rattle.layout.specs.Conditions.{section_at, short_at, apart_at, delta_at, sum_of}
 use Rattle.layout.proofs.Moves.{width_by}
 use Rattle.settling.specs.SectionWalk.{sections_in, least_words, place_mark, place_from, less_one}
 use Rattle.settling.proofs.SectionWords.{as_mark, not_mark, least_words_lem, marks_in}
 use Rattle.settling.proofs.Sections.{sections_count, Turn, turn_at, short_test, delta_test, room_mark, room_least, sums_small, least_next}
 use Rattle.settling.proofs.Turns.{walk_next, place_start, place_at, place_past, place_done, start_start, start_past, start_done}
 use Rattle.settling.proofs.FirstPlacings.{apart_none}
-use Rattle.settling.proofs.StartTable.{so_start, so_next, so_done, so_none, placed_apart_lem, less_zeros, start_placed, length_place}
+use Rattle.settling.proofs.StartTable.{so_next, so_same, so_none, so_found, placed_apart_lem, less_zeros, start_placed, length_place}
 use Rattle.settling.proofs.table.place.Goals as goal
 use Rattle.settling.proofs.table.place.Goals.{then-section-eq-MARK, else-section-eq-MARK}
 use Rattle.settling.proofs.table.place.Goals.{After-is_short, After-section-section, At-loop-i, Else-is_short, Else-section-eq-MARK, Start}
@@ -75,7 +76,7 @@ loop-i-init c =
     let n = length a.table.now in (
       (omega arith, omega arith, refl, place_start n ss a.table.now start.requires.table_value),
       refl,
-      so_start _ _,
+      search_start _,
       λ _. start_start n ss (less_one a.table.now) (ap less_one start.requires.table_value ∙ less_zeros n),
       search_start _,
       λ _. search_start _,
@@ -85,14 +86,10 @@ pub shape_of-table-then-is_short : goal.shape_of-table-then-is_short
 shape_of-table-then-is_short c = (at-loop (goal.at.shape_of-table-then-is_short c).After-section-section).loop-i.invariant.0.2
 
 pub returns-then-is_short : goal.returns-then-is_short
-unfolding first_short
 returns-then-is_short c =
     let read = (goal.at.returns-then-is_short c).After-section-section in
     let found = sym (tested (goal.at.returns-then-is_short c).After-is_short) ∙ c.if-is_short.true in
-    record {
-      short = search_hit _ _ _ (at-loop read).loop-i.invariant.4 (here read).below found;
-      placed = λ never. absurd (true≢false (sym found ∙ never _ (here read).below));
-    }
+    ((here read).below, found, (at-loop read).loop-i.invariant.4)
 
 pub place_mark-is_apart-requires : goal.place_mark-is_apart-requires
 place_mark-is_apart-requires c =
@@ -131,12 +128,12 @@ loop-i-preserved c =
           let set_to : c.if-section-eq-MARK.table ≡ place_mark table m sum = w.table-is ∙ w.place_mark-is_apart.ensures.table in
           let step = place_at ss i t.below sum table m at in
           let test : apart_at ss i ≡ w.place_mark-is_apart.result = sym (w.place_mark-is_apart.ensures.apart ∙ placed_apart_lem table m sum inside ss i t.below at (long turning) (mark-in unshort w.if-section-eq-MARK.true) inv.1 (sym step ∙ inv.0.3)) in
-          let found = w.apart-is ∙ w.earlier-apart.ensures in (
+          let found : c.if-section-eq-MARK.apart ≡ option_or turning.loop-i.apart (then_some w.place_mark-is_apart.result i) = w.apart-is ∙ w.or-apart.ensures ∙ ap (option_or turning.loop-i.apart) w.then_some.ensures in (
             walk_next place_from _ ss _ _ i sum table _ _ inv.0 below (omega (arith, w.sum-is, room_mark ss i sum t.below inv.0.1)) (ap length set_to ∙ length_place table m sum) step w.sum-is set_to,
             omega (arith, w.sum-is, inv.1, least_next ss i t.below, ap (width_by least_size) at),
-            so_next _ (apart_at ss) i _ _ _ inv.2 below test found,
+            so_next (apart_at ss) i _ _ _ inv.2 test found,
             λ h.
-                let none = so_none _ i _ _ _ below found h in
+                let none = so_none _ i _ (sym found ∙ h) in
                 ap₂ (λ (y : ℕ) (z : List ℕ). start_from (drop (i + 1) ss) y (less_one z)) w.sum-is set_to
                 ∙ sym (start_placed table m sum inside ss i t.below at (sym w.place_mark-is_apart.ensures.apart ∙ none.0))
                 ∙ inv.3 none.1,
@@ -149,11 +146,11 @@ loop-i-preserved c =
           let next : c.if-section-eq-MARK.sum ≡ sum + width_by least_size (section_at ss i) = w.sum-is ∙ ap (λ (x : ℕ). sum + x) least in (
             walk_next place_from _ ss _ _ i sum table _ _ inv.0 below (omega (arith, next, room_least ss i sum t.below inv.0.1)) (ap length w.table-is) (place_past ss i t.below sum table other) next w.table-is,
             omega (arith, next, inv.1, least_next ss i t.below),
-            so_next _ (apart_at ss) i _ _ false inv.2 below (apart_none ss i other) w.apart-is,
+            so_same (apart_at ss) i _ _ inv.2 (apart_none ss i other) w.apart-is,
             λ h.
                 ap₂ (λ (y : ℕ) (z : List ℕ). start_from (drop (i + 1) ss) y (less_one z)) next w.table-is
                 ∙ sym (start_past ss i t.below sum (less_one table) other)
-                ∙ inv.3 (omega (arith, w.apart-is, h)),
+                ∙ inv.3 (sym w.apart-is ∙ h),
             whole,
             direct,
           )
@@ -163,22 +160,16 @@ pub shape_of-table : goal.shape_of-table
 shape_of-table c = c.loop-i.invariant.0.2
 
 pub returns : goal.returns
-unfolding first_short first_apart
 returns c =
     let turning = (goal.at.returns c).At-loop-i in
-    let a = (entry turning).args in
     let ss = sections turning in
     let inv = turning.loop-i.invariant in
-    let count = sections_count a.store in
-    let end : a.store.counts.sections ≡ turning.loop-i.i = omega arith in
+    let count = sections_count (entry turning).args.store in
     let done : length ss ≤ turning.loop-i.i = omega (arith, count, c.loop-i-test.false) in
     record {
-      short = end ∙ search_done _ _ _ inv.4 (omega (arith, count, inv.0.0)) done;
-      placed = λ _.
-          record {
-            apart = so_done _ (apart_at ss) _ _ inv.2 inv.0.0 c.loop-i-test.false ∙ ap (λ (k : ℕ). least_from (apart_at ss) k 0) (sym count);
-            sums = sym (place_done ss _ _ done _) ∙ inv.0.3;
-            started = λ h. sym (start_done ss _ _ done _) ∙ inv.3 (omega (arith, count, h));
-            direct = λ h j l. inv.5 h j (omega (arith, l, done));
-          };
+      in_table = λ j l. inv.4 j (omega (arith, l, done));
+      apart = so_found ss _ turning.loop-i.i _ inv.2 (omega (arith, count, inv.0.0, done));
+      sums = sym (place_done ss _ _ done _) ∙ inv.0.3;
+      started = λ h. sym (start_done ss _ _ done _) ∙ inv.3 h;
+      direct = λ h j l. inv.5 h j (omega (arith, l, done));
     }

@@ -16,10 +16,11 @@ use Rattle.layout.specs.Conditions.{IsFirst, section_at, short_at, sum_of}
 use Rattle.settling.specs.SectionWalk.{sections_in, MarksIn}
 use Rattle.settling.proofs.SectionWords.{size_section, as_mark, not_mark, size_words_lem, marks_in}
 use Rattle.settling.proofs.Sections.{sections_count, Turn, turn_at, short_test, backward_test, room_mark, room_size, sums_small}
+use Rattle.settling.proofs.StartTable.{so_same, so_found}
 use Rattle.tables.specs.MarkMap.{Marked}
 use Rattle.tables.specs.TableWalk.{stops_at}
 use Rattle.tables.proofs.MarkMaps.{replicated, marked_start, marked_mark, marked_other}
-use Rattle.tables.proofs.Turns.{turn_max, marks_covered, so_next, so_same, so_found, stops_short, stops_mark, passes_mark, passes_other, stops_other, sum_mark, sum_other, mark_forward}
+use Rattle.tables.proofs.Turns.{turn_max, marks_covered, so_next, stops_short, stops_mark, passes_mark, passes_other, stops_other, sum_mark, sum_other, mark_forward}
 use Rattle.tables.proofs.compare.compare.Given.{Over}
 use Rattle.tables.proofs.compare.compare.Goals as goal
 use Rattle.tables.proofs.compare.compare.Goals.{then-section-eq-MARK+else-entry_of-sum, else-section-eq-MARK+in-Some}

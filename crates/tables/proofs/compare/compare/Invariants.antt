@@ -8,7 +8,7 @@ use Rattle.settling.proofs.Sections.{Room}
 use Rattle.tables.specs.MarkMap.{Marked}
 use Rattle.tables.specs.TableTests.{sum_before}
 use Rattle.tables.specs.TableWalk.{stops_at}
-use Rattle.tables.proofs.Turns.{SoFar}
+use Rattle.settling.proofs.StartTable.{SoFar}
 use Rattle.tables.proofs.compare.compare.Given as goal
 
 abbrev pub invariant-loop-i : goal.invariant-loop-i
