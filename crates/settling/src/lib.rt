@@ -22,14 +22,8 @@ use crate::search::{first_backward, first_unplaced};
 use crate::table::{less_one, place};
 use records::Assembler;
 pub use search::{is_backward, is_short, missing_refusal};
-pub use 
-<<<<<<< /tmp/wm.2
-section::{entry_of, size_of, span_length};
-pub use table::{clear, earlier};
-=======
-table::clear;
->>>>>>> /tmp/wm.3
-
+pub use section::{entry_of, size_of, span_length};
+pub use table::clear;
 use undamaged::UndamagedStore;
 use units::{LaidOut, MarkId, Refusal};
 
