@@ -125,6 +125,7 @@ pub fn write_asm(state: u64, bytes: &[u8], words: &[u32], text: &mut [u8]) -> u6
 }
 
 // The answer to settling, to a write or to assembly as a number.
+// Kept: no `From`, here and below, since neither type is this crate's.
 fn assembled_number(assembled: Result<LaidOut, Refusal>) -> u64
     requires { AssembledPacks (assembled_reply assembled) }
     ensures { result ≡ assembled_number (assembled_reply assembled) }

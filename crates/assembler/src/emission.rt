@@ -17,6 +17,7 @@ use undamaged::UndamagedStore;
 use units::{AsmBytesIdx, MarkId, Span, form};
 
 // The lent code and the place in it that the next byte goes to.
+// Kept: `Fits` is asked by each method, since it is of the writer and of the bytes that this method writes.
 #[derive(Drop)]
 pub(crate) struct CodeWriter<'a> {
     pub(crate) code: &'a mut [u8],

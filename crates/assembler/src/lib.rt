@@ -1,5 +1,6 @@
 // Document 01, modules 3 and 4: assembly. Settling, then the code into the lent result from a position on. Document 02, request 3: the write
 // by a table from anyone.
+// Kept: the public calls take counts, bytes and words apart, as docs/CLAIMS.md and C have them; the functions inside take an `UndamagedStore`.
 #![tactic(auto)]
 
 mod emission;

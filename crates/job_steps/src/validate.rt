@@ -13,6 +13,7 @@ use units::{AsmReference, MarkId, MarkReference, Span};
 pub const MAX_JOB: usize = 32768;
 
 // The kinds of a step. That of a delta is 32 plus its form.
+// Kept: numbers, since they are bytes of a job; `call_of` alone reads them, and makes an enum of them.
 const MARK: u8 = 1;
 
 const OP: u8 = 2;

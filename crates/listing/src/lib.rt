@@ -1,4 +1,5 @@
 // Document 01, module 5: the listing of a store (display.rs), `write_asm`. The lines themselves are put by `lines`.
+// Kept: the public calls take counts, bytes and words apart, as docs/CLAIMS.md and C have them; the functions inside take an `UndamagedStore`.
 #![tactic(auto)]
 
 mod sections;

@@ -1,4 +1,5 @@
 // How counts, answers and forms are one number each. Every function is total: it takes any number.
+// Kept: functions in place of `From`: of the two types of each neither is this crate's, and docs/CLAIMS.md names them.
 #![tactic(auto)]
 
 mod form;

@@ -1,4 +1,5 @@
 // The tests for number 6: the whole store's, and the lesser one of a building call.
+// Kept: counts, bytes and words apart, since a store that isn't tested has no fact that a type could hold (undamaged has the tested one).
 ghost use Rattle.std.specs.Prelude.{◌≡◌, Some, false, cond, ◌&&◌, ◌+◌, ◌*◌, ◌≤◌, ltb, eqb, length};
 ghost use Rattle.records.specs.Store.{store_of, words_per_section, words_at, bad_counts};
 ghost use Rattle.records.specs.Record.{read_section, max_mark, mark_kind, direct_kind};

@@ -127,6 +127,7 @@ fn read_ref(mark_ref: MarkReference, size: u32, pushed: bool) -> Option<AsmSecti
 }
 
 // The set size that 0 (unsized) to 4 stand for; a larger number counts as 4.
+// Kept: no `From`, since neither type is this crate's.
 pub fn set_size_of(size: u32) -> Option<RefSize>
     ensures { result ≡ set_size_of size }
 {

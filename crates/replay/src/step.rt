@@ -9,6 +9,7 @@ use units::{AsmReference, MarkId, MarkReference, Span};
 pub(crate) const STEP_BYTES: usize = 9;
 
 // The first kind of a delta; the form is added to it.
+// Kept: here and in the arms below kinds are numbers, since they are bytes of a script; this file alone reads them, and makes enums of them.
 const DELTA: u8 = 32;
 
 // A step that no call is made for: an unlisted kind or form, a value above its limit, an index or a part that its slice hasn't.

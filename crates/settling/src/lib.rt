@@ -1,5 +1,8 @@
 // Document 01, module 3: the tests for 7, 8 (of document 02, request 5, with 17 and 18) and 9, and the settling. The lent table holds what
 // the tests need to remember; it is 0 again when they refuse.
+// Kept: the public calls take counts, bytes and words apart, as docs/CLAIMS.md and C have them; the functions inside take an `UndamagedStore`.
+// Kept: `MarksFit` is asked of the store and the lent table's length; a struct of both would hold the table by `&mut`, and prove its length
+// again at each write.
 #![tactic(auto)]
 
 mod passes;

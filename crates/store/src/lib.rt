@@ -1,7 +1,8 @@
 // Document 01, module 2: the building calls. Each takes the store's counts by value and is lent the byte slice and the slice of words.
 // It answers the new counts, or a refusal with nothing changed. Refusals are tested in the order 1, 2, 3, 6, 4, 5, and byte by byte of a
 // run of op bytes. The work is done by number (`building`); here numbers become counts and refusals.
-// Kept: eleven functions that differ in the call that they make: each has its own contract, which docs/CLAIMS.md names.
+// Kept: eleven functions that differ in the call that they make: each has its own contract, which docs/CLAIMS.md names;
+// counts, bytes and words are apart there too.
 #![tactic(auto)]
 
 ghost use Rattle.std.specs.Prelude.{◌≡◌};
@@ -207,6 +208,7 @@ pub fn push_data(
 }
 
 // What the number of a building call stands for.
+// Kept: no `From`, since neither type is this crate's.
 fn built_of(answer: u64) -> Result<Assembler, Refusal>
     ensures { built_reply result ≡ built_of answer }
 {

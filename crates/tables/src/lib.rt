@@ -1,6 +1,8 @@
 // Document 02, request 3: the tests of a store and of an offset table 'from anyone', all but the room for the code. The table is lent to
 // read only, so that what 8, 17, 18 and 9 need to remember is a map of one bit for each mark, made here: of 2,048 bytes where the table has at most
 // 16,384 entries, else of 131,072, enough for every mark number.
+// Kept: the public calls take counts, bytes and words apart, as docs/CLAIMS.md and C have them; the functions inside take an `UndamagedStore`.
+// Kept: `Marked` and `IsFirst` are facts of a moment, how far the map is filled and what a search found, so that no type can hold them.
 #![tactic(auto)]
 
 mod compare;

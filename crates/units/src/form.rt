@@ -4,6 +4,8 @@ ghost use Rattle.std.specs.Prelude.{◌≡◌, ◌≤◌};
 ghost use Rattle.units.specs.Numbers.{held_bytes};
 ghost use Rattle.units.specs.Form.{least_by_form, count_by_form, push_zero_by_form, size_by_form};
 
+// Kept: a form is a number, as the words of a section and C have it; `AsmReference` and, of a number, `Form` (numbers) say it by fields.
+
 // The greatest set size: the forms of raw references are 0 to 4.
 pub const MAX_SIZE: u32 = 4;
 

@@ -74,6 +74,7 @@ impl RefSize {
 }
 
 // A set size as a number, 0 if unsized.
+// Kept: no `From`, since an Option is no type of this crate's.
 pub fn set_size_number(set_size: Option<RefSize>) -> u32
     ensures { (result ≡ size_number set_size) × (result ≤ 4) }
 {

@@ -38,6 +38,7 @@ pub enum Refusal {
 
 impl Refusal {
     // The number of the table of replies.
+    // Kept: three functions over one match, since docs/CLAIMS.md names them and a `From` says less than their names.
     pub fn number(self) -> u32
         ensures { result ≡ (refusal_numbers self).number }
     {
