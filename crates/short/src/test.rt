@@ -34,8 +34,7 @@ pub(crate) fn takes_section(state: u64, bytes: &[u8], words: &[u32]) -> bool
     is_whole(words, next - 1, stored)
 }
 
-// So many bytes more are taken, and extend a last section of this kind. That there is a section is asked of the state's number itself,
-// so that the compiler knows that the next state isn't 0.
+// So many bytes more are taken, and extend a last section of this kind. That there is a section is asked of the state's number itself.
 pub(crate) fn extends(state: u64, bytes: &[u8], words: &[u32], kind: u32, added: usize) -> bool
     requires { added < 2 ^ 63 }
     ensures { result ≡ true → Extends words_per_section kind added (store_in state bytes.now words.now) }
