@@ -18,7 +18,7 @@ use Rattle.layout.specs.Passes.{start_from}
 use Rattle.layout.specs.Conditions.{section_at, short_at, apart_at, delta_at, sum_of}
 use Rattle.layout.proofs.Moves.{width_by}
 use Rattle.settling.specs.SectionWalk.{sections_in, least_words, place_mark, place_from, less_one}
-use Rattle.settling.proofs.SectionWords.{as_mark, not_mark, least_words_lem, marks_in}
+use Rattle.settling.proofs.SectionWords.{as_mark, not_mark, ordered, least_words_lem, marks_in}
 use Rattle.settling.proofs.Sections.{sections_count, Turn, turn_at, short_test, delta_test, room_mark, room_least, sums_small, least_next}
 use Rattle.settling.proofs.Turns.{walk_next, place_start, place_at, place_past, place_done, start_start, start_past, start_done}
 use Rattle.settling.proofs.FirstPlacings.{apart_none}
@@ -68,18 +68,7 @@ place_mark-is_apart-requires c = (
   omega (arith, sums_small c.args.store c.loop-i.i c.loop-i.sum c.loop-i.invariant.0.1 c.loop-i.invariant.0.0),
 )
 
-pub 
-<<<<<<< /tmp/wm.2
-
-=======
-least_size-sum-requires : goal.least_size-sum-requires
-least_size-sum-requires c =
-    let long = (goal.at.least_size-sum-requires c).Else-is_short in
-    ordered (here (goal.at.Else-is_short long).After-section-section).words c.if-section-eq-MARK.false
-
-pub 
->>>>>>> /tmp/wm.3
-overflow_add-sum : goal.overflow_add-sum
+pub overflow_add-sum : goal.overflow_add-sum
 overflow_add-sum c =
     let other = (goal.at.overflow_add-sum c).Else-section-eq-MARK in
     let t = here (goal.at.Else-is_short (goal.at.Else-section-eq-MARK other).Else-is_short).After-section-section in
