@@ -13,6 +13,7 @@ ghost use Rattle.settling.specs.SectionWalk.{sections_in, value_words};
 ghost use Rattle.assembler.specs.Writing.{Fits, wrote, words_bytes, form_bytes, Writable, WritableReference};
 
 use records::{StoredSection, form_of, kind};
+use settling::value_of;
 use undamaged::UndamagedStore;
 use units::{AsmBytesIdx, MarkId, Span, form};
 
@@ -36,28 +37,6 @@ pub(crate) fn write_code(store: UndamagedStore, table: &[u32], res: &mut [u8], p
         at: position,
     };
     writer.write_sections(store, table);
-}
-
-// A reference's value by the table.
-fn value_of(section: StoredSection, table: &[u32]) -> u32
-    requires { WritableReference table.now section }
-    ensures { result ≡ value_words table.now section }
-{
-    let start = entry_of(table, MarkId(section.first));
-    if section.kind == kind::DIRECT {
-        return start;
-    }
-    let end = entry_of(table, MarkId(section.second));
-    end - start
-}
-
-// A mark's entry of the table.
-fn entry_of(table: &[u32], mark: MarkId) -> u32
-    requires { «mark».0 < length table.now }
-    ensures { result ≡ entry table.now «mark».0 }
-{
-    let at = mark.0 as usize;
-    table[at]
 }
 
 impl<'a> CodeWriter<'a> {

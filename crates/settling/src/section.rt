@@ -26,7 +26,7 @@ pub fn span_length(section: StoredSection) -> u32
 
 // A reference's value by the table as it is; an end below its start reads 0.
 #[tactic(auto, unfolding(crate::specs::SectionWalk::value_words))]
-fn value_of(section: StoredSection, table: &[u32]) -> u32
+pub fn value_of(section: StoredSection, table: &[u32]) -> u32
     ensures { result ≡ value_words table.now section }
 {
     let start = entry_of(table, MarkId(section.first));
