@@ -5,7 +5,6 @@ ghost use Rattle.std.specs.Prelude.{◌≡◌, ℕ, ◌+◌, ◌*◌, ◌≤◌,
 ghost use Rattle.units.specs.Numbers.{big_endian};
 ghost use Rattle.records.specs.Record.{form_of};
 ghost use Rattle.records.specs.Store.{words_per_section, words_at};
-ghost use Rattle.undamaged.specs.Section.{span_bytes, SpanIn};
 ghost use Rattle.slices.specs.Over.{over};
 ghost use Rattle.layout.specs.Passes.{entry};
 ghost use Rattle.assembler.specs.Emission.{opcode, code_of};
@@ -15,7 +14,7 @@ ghost use Rattle.assembler.specs.Writing.{Fits, wrote, words_bytes, form_bytes, 
 use records::{StoredSection, form_of, kind};
 use settling::value_of;
 use undamaged::UndamagedStore;
-use units::{AsmBytesIdx, MarkId, Span, form};
+use units::{MarkId, form};
 
 // The lent code and the place in it that the next byte goes to.
 // Kept: `Fits` is asked by each method, since it is of the writer and of the bytes that this method writes.
@@ -62,11 +61,9 @@ impl<'a> CodeWriter<'a> {
             return;
         }
         if section.kind < kind::DIRECT {
-            let span = Span {
-                start: AsmBytesIdx(section.first),
-                end: AsmBytesIdx(section.second),
-            };
-            return self.write_span(span, bytes);
+            let start = section.first as usize;
+            let end = section.second as usize;
+            return self.write_bytes(&bytes[start..end]);
         }
         self.write_reference(section, table);
     }
@@ -120,6 +117,7 @@ impl<'a> CodeWriter<'a> {
         self.write_bytes(&bytes[4 - COUNT..]);
     }
 
+    // Copies bytes. Not by `slices::write_bytes`, which would test the room at each section.
     fn write_bytes(&mut self, bytes: &[u8])
         requires { Fits self.old bytes.now }
         ensures { self.new ≡ wrote self.old bytes.now }
@@ -127,17 +125,6 @@ impl<'a> CodeWriter<'a> {
         let end = self.at + bytes.len();
         self.code[self.at..end].copy_from_slice(bytes);
         self.at = end;
-    }
-
-    // Copies the bytes of a span. One after another: `write_bytes` would be a call of `memcpy`, and most spans are short.
-    fn write_span(&mut self, span: Span<AsmBytesIdx>, bytes: &[u8])
-        requires span_in { SpanIn (length bytes.now) span }
-        requires fits { Fits self.old (span_bytes bytes.now span) }
-        ensures { self.new ≡ wrote self.old (span_bytes bytes.now span) }
-    {
-        for i in span.start.0 as usize..span.end.0 as usize {
-            self.write_byte(bytes[i]);
-        }
     }
 
     fn write_byte(&mut self, byte: u8)
