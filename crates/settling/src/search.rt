@@ -62,7 +62,7 @@ fn all_placed(table: &[u32]) -> bool
     !table.contains(&0)
 }
 
-// The first section with a property, by a closure that tests for it.
+// The first section with the property that a closure tests for, if there is one.
 fn first_section<F: Fn(StoredSection) -> bool>(store: UndamagedStore, is_one: F) -> Option<u32>
     requires { (i : ℕ) → i < store.counts.sections → F.pre is_one (words_at words_per_section store.words.now i) }
     ensures { (test : ℕ → Bool)

@@ -39,8 +39,8 @@ pub(crate) struct Placings {
     pub(crate) has_delta: bool,
 }
 
-// The table of first placings. Err: the first section with a mark at or past the table's length, at which it stops. This 7 and 9 are looked
-// for on the way, so that neither needs a walk of its own.
+// The table of first placings. Err: the first section with a mark at or past the table's length, at which it stops. 7 and 9 are looked for
+// on the way, so that neither needs a walk of its own.
 pub(crate) fn place(store: UndamagedStore, table: &mut [u32]) -> Result<Placings, u32>
     requires table_value { table.old ≡ replicate (length table.old) 0 }
     ensures { MatchResult result
