@@ -6,7 +6,8 @@ ghost use Rattle.undamaged.specs.View.{Undamaged};
 
 use records::{Assembler, Damage, StoredSection, check_store};
 
-// The store's counts, with the bytes and the words that it stands on. Only `check` makes one, so that no walk tests it again.
+// The store's counts, with the bytes and the words that it stands on. It is made by `check`, or by its fields where they are proved to be
+// undamaged, so that no walk tests it again.
 #[derive(Clone, Copy)]
 pub struct UndamagedStore<'a> {
     pub counts: Assembler,
