@@ -122,6 +122,7 @@ POINTS = [
     ("1 a number that 0 stands apart in", found(r"\bif \w+ != 0 \{\s*return \w+;") + found(r"^ +return 0;", only="short/")),
     ("1 a search that answers a count where it finds nothing",
      found(r"\bfn first_\w+\([^{;]*?\) -> u32", lambda m: m[0].split("(")[0]) + found(r"^ +pub\(crate\) (short|apart|stopped|backward): u32,")),
+    ("1 a state, or an answer, as one number", found(r"\bfn \w+\(\s*state: u64\b|\bfn \w+\([^{;]*?\) -> u64\s+(ensures|requires)", lambda m: m[0].split("(")[0], only="^crates/(?!sadrokki)")),
     ("1 kinds by number: constants", found(r"^(pub(\(crate\))? )?const [A-Z_0-9]+: u(8|32) = [0-9]+;", only=r"kind|read|form|step")),
     ("1 kinds by number: arms", found(r"^ +[0-9]+(\.\.=[0-9]+)?( \| [0-9]+)* =>", only="replay|job")),
     ("2 functions of one shape (each row a group)", twins()),

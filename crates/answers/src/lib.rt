@@ -1,4 +1,5 @@
 // Settling, the write, assembly and the listing by a state's number, each answered by one number.
+// Kept: a state and an answer are one number, and the slices are apart, since C has it so (sadrokki).
 #![tactic(auto)]
 
 ghost use Rattle.std.specs.Prelude.{◌≡◌, length};

@@ -1,5 +1,6 @@
 // The small calls, by number: landing, the opcodes, the sizes of references by their form, and the scan for the first nonzero byte. Every
 // function takes every argument.
+// Kept: each answer is one number, since C has it so (sadrokki).
 #![tactic(auto)]
 
 ghost use Rattle.std.specs.Prelude.{◌≡◌, ◌+◌, ◌/◌};
