@@ -1,7 +1,7 @@
 // Document 01, module 4: the code of the sections, written into the lent result. Called after the settling or after the tests of a table, so
 // every section is readable, every mark is in the table, no delta is backward, and the code fits: a public writer would have to walk the
 // sections once more to find that out.
-ghost use Rattle.std.specs.Prelude.{◌≡◌, ℕ, ◌+◌, ◌*◌, ◌≤◌, ◌<◌, [], ◌∷◌, length};
+ghost use Rattle.std.specs.Prelude.{◌≡◌, ℕ, ◌+◌, ◌≤◌, ◌<◌, [], ◌∷◌, length};
 ghost use Rattle.units.specs.Numbers.{big_endian};
 ghost use Rattle.records.specs.Record.{form_of};
 ghost use Rattle.records.specs.Store.{words_per_section, words_at};
@@ -14,10 +14,11 @@ ghost use Rattle.assembler.specs.Writing.{Fits, wrote, words_bytes, form_bytes, 
 use records::{StoredSection, form_of, kind};
 use settling::value_of;
 use undamaged::UndamagedStore;
-use units::{MarkId, form};
+use units::form;
 
 // The lent code and the place in it that the next byte goes to.
 // Kept: `Fits` is asked by each method, since it is of the writer and of the bytes that this method writes.
+// Kept: a writer of its own beside lines' `TextSink`, which tests the room at each byte; here there is room for the whole code.
 #[derive(Drop)]
 pub(crate) struct CodeWriter<'a> {
     pub(crate) code: &'a mut [u8],

@@ -5,7 +5,7 @@ ghost use Rattle.evm.specs.Landing.{landing_at};
 use crate::op;
 
 // Whether a jump may land.
-// Kept: two cases of a name each, as docs/CLAIMS.md has the answer; neither stands for a missing value.
+// Kept: an enum of two names, since the definition `landing_at` answers it; neither stands for a missing value.
 #[derive(Clone, Copy, Debug, PartialEq, Eq)]
 pub enum Landing {
     Yes,

@@ -54,7 +54,7 @@ impl<'a> TextSink<'a> {
     {
         let end = (span.end.0 as usize).min(bytes.len());
         let mut i = span.start.0 as usize;
-        // Kept: a turn steps by an instruction's length, which no iterator of the library does.
+        // Kept: a turn steps by an instruction's length; `successors` would give the places, and the loop would read the code at each again.
         while i < end {
             let code = &bytes[i..end];
             self.put_instruction(code);

@@ -90,6 +90,7 @@ impl<'a> TextSink<'a> {
 }
 
 // The character of a hex digit.
+// Kept: hex and decimal by hand: a `fmt::Write` stops at a text that is full, where the sink counts on, and would be longer than these lines.
 #[tactic(auto, unfolding(crate::specs::Lines::hex_digit))]
 fn hex_digit(digit: u8) -> u8
     requires { digit < 16 }

@@ -1,6 +1,7 @@
 // Document 01, module 2: the minimal pushes by number: PUSH0 for 0, else the least PUSH1 to PUSH32 with its bytes, highest first.
 // Each answers the next state, or a refusal with nothing changed.
 // Kept: a state and an answer are one number, since C has it so and numbers stay in registers (building, docs/PLAN.md, "Tried").
+// Kept: digits and their zeros travel apart, since `add_scanned` isn't inlined and a struct would go by way of memory (docs/PLAN.md, "Tried").
 #![tactic(auto)]
 
 ghost use Rattle.std.specs.Prelude.{◌≡◌, ◌∷◌, ◌+◌, ◌-◌, ◌≤◌, length, take, drop, true};

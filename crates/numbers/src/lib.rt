@@ -1,5 +1,5 @@
 // How counts, answers and forms are one number each. Every function is total: it takes any number.
-// Kept: functions in place of `From`: of the two types of each neither is this crate's, and docs/CLAIMS.md names them.
+// Kept: functions in place of `From`, since docs/CLAIMS.md names them; and but for `form_of` neither type of any is this crate's.
 #![tactic(auto)]
 
 mod form;

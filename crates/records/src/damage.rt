@@ -1,5 +1,5 @@
 // The tests for number 6: the whole store's, and the lesser one of a building call.
-// Kept: counts, bytes and words apart, since a store that isn't tested has no fact that a type could hold (undamaged has the tested one).
+// Kept: counts, bytes and words apart, and the room for the words asked thrice: a type for good counts alone would stand for these three calls.
 ghost use Rattle.std.specs.Prelude.{◌≡◌, Some, false, cond, ◌&&◌, ◌+◌, ◌*◌, ◌≤◌, ltb, eqb, length};
 ghost use Rattle.records.specs.Store.{store_of, words_per_section, words_at, bad_counts};
 ghost use Rattle.records.specs.Record.{read_section, max_mark, mark_kind, direct_kind};
@@ -96,8 +96,8 @@ fn bytes_unheld(stored: u32, holders: u32) -> bool
     holders == 0
 }
 
-// The three words of section i. `settling`, `assembler` and `listing` have copies: a public one would test the index at each section,
-// which makes assembly 8 to 15 % slower and the listing 3 % (docs/DECISIONS.md, 49).
+// The three words of section i.
+// Kept: a private reader beside `UndamagedStore::section`, since a store is read here before it is found undamaged, and without a test of i.
 fn section_words(words: &[u32], i: usize) -> StoredSection
     requires { words_per_section * (i + 1) ≤ length words.now }
     ensures { result ≡ words_at words_per_section words.now i }
@@ -121,6 +121,7 @@ fn is_span(kind: u32) -> bool
 }
 
 // How many sections there are up to and with the last Ops or Data section.
+// Kept: a count, 0 where there is none, since the definition `spans_end` is that count.
 fn spans_end(store: Assembler, bytes: &[u8], words: &[u32]) -> u32
     requires { words_per_section * store.sections ≤ length words.now }
     ensures { result ≡ spans_end words_per_section (store_of store bytes.now words.now) store.sections }

@@ -1,6 +1,5 @@
-// Kept: numbers, since word 0 lies in the caller's memory, as C has it. Read back a section is an enum, `AsmSection`; the walks go by the
-// words, since the enum goes by way of memory there and takes 1.2 to 2.1 times as long (docs/DECISIONS.md, 16).
 // Word 0 of a section: the kinds, in the order of `StoredAsmSection`. The four sizes follow each of the two unsized deltas.
+// Kept: numbers, since word 0 lies in the caller's memory, as C has it; read back, a section is an enum, `AsmSection`.
 pub const MARK: u32 = 0;
 
 pub const OPS: u32 = 1;

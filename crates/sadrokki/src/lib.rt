@@ -18,6 +18,7 @@
 // answer, rounded down and rounded up, gives both.
 //
 // Form of a reference: set size (0 unsized, else 1 to 4) plus 8 if pushed. 0 to 4 and 8 to 12; any other names nothing.
+// Kept: a state and an answer are one number, and slices travel apart: this is the C interface, of functions that each make one call.
 #![tactic(auto)]
 
 mod assemble;

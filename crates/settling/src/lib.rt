@@ -1,8 +1,7 @@
 // Document 01, module 3: the tests for 7, 8 (of document 02, request 5, with 17 and 18) and 9, and the settling. The lent table holds what
 // the tests need to remember; it is 0 again when they refuse.
 // Kept: the public calls take counts, bytes and words apart, as docs/CLAIMS.md and C have them; the functions inside take an `UndamagedStore`.
-// Kept: `MarksFit` is asked of the store and the lent table's length; a struct of both would hold the table by `&mut`, and prove its length
-// again at each write.
+// Kept: `MarksFit` is asked by each walk, since the table is lent on by `&mut`: a struct of store and table would be taken apart at each.
 #![tactic(auto)]
 
 mod passes;

@@ -9,9 +9,7 @@ use crate::section::size_of;
 use records::kind;
 use std::mem::replace;
 use undamaged::UndamagedStore;
-use units::{LaidOut, MarkId, Refusal};
-
-const MAX_PASSES: u32 = 1024;
+use units::{LaidOut, MAX_PASSES, MarkId, Refusal};
 
 // A mark's entry to the sum of sizes before it; that it was another.
 fn move_mark(table: &mut [u32], mark: MarkId, sum: u32) -> bool

@@ -38,6 +38,7 @@ pub fn is_short(section: StoredSection, limit: usize) -> bool
 }
 
 // 8, 17 or 18, for one section, by the table of first placings.
+// Kept: beside tables' test by its map: one function of both would take `is placed` as a closure, and have a `requires`.
 #[tactic(auto, unfolding(crate::specs::SectionWalk::unplaced_words))]
 fn is_unplaced(section: StoredSection, table: &[u32]) -> bool
     ensures { result ≡ unplaced_words table.now section }

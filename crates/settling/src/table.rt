@@ -18,6 +18,7 @@ pub fn clear(table: &mut [u32])
 }
 
 // At a mark's first placing, the sum of least sizes before it, plus 1; that a later placing has another.
+// Kept: an entry 0 for no placing yet, since the lent table is the caller's words and has no room for an Option beside each.
 fn place_mark(table: &mut [u32], mark: MarkId, sum: u32) -> bool
     requires { («mark».0 < length table.old) × (sum < 4294967295) }
     ensures apart { result ≡ not (eqb (entry (place_mark table.old «mark».0 sum) «mark».0) (sum + 1)) }

@@ -2,6 +2,7 @@
 // Each answers the next state, or None with nothing changed where its test says no: then the caller has every case judged (`adding`).
 // Nothing here goes by way of memory: every function is small enough to be inlined.
 // Kept: the state is one number beside its slices, as C has it (building); the Option costs nothing, since every call is inlined.
+// Kept: one op byte beside runs of them, and counts read from the state's number in place: an array of one byte lies in memory when it is lent.
 #![tactic(auto)]
 
 mod last;

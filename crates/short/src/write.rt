@@ -41,6 +41,7 @@ pub(crate) fn least_bytes(value: u64) -> usize
 }
 
 // A number in so many bytes, highest first; written from the lowest on.
+// Kept: by division; a copy of the last bytes of `to_be_bytes` is of a count that the compiler doesn't know (slices, `copy_bytes`).
 pub(crate) fn write_number(bytes: &mut [u8], at: usize, count: usize, value: u64)
     requires { at + count ≤ length bytes.old }
     ensures { bytes.new ≡ over bytes.old at (big_endian count value) }

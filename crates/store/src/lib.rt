@@ -1,8 +1,7 @@
 // Document 01, module 2: the building calls. Each takes the store's counts by value and is lent the byte slice and the slice of words.
 // It answers the new counts, or a refusal with nothing changed. Refusals are tested in the order 1, 2, 3, 6, 4, 5, and byte by byte of a
 // run of op bytes. The work is done by number (`building`); here numbers become counts and refusals.
-// Kept: eleven functions that differ in the call that they make: each has its own contract, which docs/CLAIMS.md names;
-// counts, bytes and words are apart there too.
+// Kept: eleven functions that differ in the call that they make, with counts and slices apart: docs/CLAIMS.md names each contract.
 #![tactic(auto)]
 
 ghost use Rattle.std.specs.Prelude.{◌≡◌};

@@ -13,7 +13,7 @@ use undamaged::UndamagedStore;
 use units::MarkId;
 
 // 7, from a section on before which there is none.
-// Kept: a loop here and in `first_unplaced`: settling's `first_section`, which takes the test as a closure, has a `requires`, so it can't be public.
+// Kept: a loop here and in `first_unplaced`: settling's `first_section`, which takes the test as a closure, has a `requires`, so it can't be public; by `find` on a range the same closure is asked for its own bounds.
 pub(crate) fn first_short(store: UndamagedStore, limit: usize, from: u32) -> Option<u32>
     requires { NoneTo (short_at limit (sections_in store)) from }
     ensures { Found (sections_in store.entry) (short_at limit (sections_in store.entry)) result }
@@ -89,6 +89,7 @@ impl<'a, const BYTES: usize> Fitting<'a, BYTES> {
 }
 
 // 8, 17 or 18, for one section, by the map of the marks that are placed.
+// Kept: beside settling's test by its table, for the reason given there.
 #[tactic(auto, using(std::proofs::lemmas::Bool::Decides::nat_tests), unfolding(crate::specs::TableWalk::unplaced_by))]
 fn is_unplaced<const BYTES: usize>(section: StoredSection, map: &MarkMap<BYTES>) -> bool
     requires { MarksIn (8 * BYTES) section }

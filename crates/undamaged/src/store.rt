@@ -36,7 +36,8 @@ impl<'a> UndamagedStore<'a> {
         })
     }
 
-    // The three words of section i; where there is no such section, zeros.
+    // The three words of section i.
+    // Kept: no Option past the last section, and walks by index, since each walk stays below the count and most need the index for a refusal.
     pub fn section(self, i: u32) -> StoredSection
         ensures { i < self.entry.counts.sections → result ≡ words_at words_per_section self.entry.words.now i }
     {

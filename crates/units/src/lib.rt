@@ -10,7 +10,7 @@ ghost use Rattle.units.specs.Numbers.{held_bytes};
 ghost use Rattle.units.specs.Reference.{ref_size_bytes, unsized_pushed, least_size, size_for};
 ghost use Rattle.units.specs.Form.{size_number, form_number};
 
-pub use reply::{LaidOut, Refusal};
+pub use reply::{LaidOut, MAX_PASSES, Refusal};
 
 // The number of a mark. A store takes 0 to 1,048,575.
 #[derive(Clone, Copy, Debug, PartialEq, Eq)]
@@ -89,22 +89,14 @@ impl AsmReference {
     pub fn new_direct(id: MarkId) -> Self
         ensures { result ≡ unsized_pushed (MarkReference.Direct id) }
     {
-        Self {
-            mark_ref: MarkReference::Direct(id),
-            set_size: None,
-            pushed: true,
-        }
+        Self::pushed(MarkReference::Direct(id))
     }
 
     // An unsized pushed reference to end's offset minus start's.
     pub fn new_delta(start: MarkId, end: MarkId) -> Self
         ensures { result ≡ unsized_pushed (MarkReference.Delta (record { start = start; end = end })) }
     {
-        Self {
-            mark_ref: MarkReference::Delta(Span { start, end }),
-            set_size: None,
-            pushed: true,
-        }
+        Self::pushed(MarkReference::Delta(Span { start, end }))
     }
 
     // An unsized pushed reference.

@@ -5,7 +5,7 @@ ghost use Rattle.std.specs.Prelude.{◌≡◌};
 ghost use Rattle.units.specs.Replies.{refusal_numbers};
 
 // The most passes that settling makes.
-const MAX_PASSES: u32 = 1024;
+pub const MAX_PASSES: u32 = 1024;
 
 // What settling, a write and assembly answer when they accept: the code's length in all, and the passes made.
 #[derive(Clone, Copy, Debug, PartialEq, Eq)]
