@@ -195,10 +195,7 @@ fn held_by(section: AsmSection) -> Held
 fn ends_elsewhere(held: Held, stored: u32) -> bool
     ensures { result ≡ ends_elsewhere held stored }
 {
-    match held {
-        Some(span) => span.end.0 != stored,
-        None => false,
-    }
+    held.is_some_and(|span| span.end.0 != stored)
 }
 
 // Bytes that start elsewhere than at the previous end, or, the last, end elsewhere than at the stored count.
@@ -215,20 +212,14 @@ fn span_misplaced(span: Span<AsmBytesIdx>, previous_end: u32, is_last: bool, sto
 fn is_misplaced(held: Held, previous_end: u32, is_last: bool, stored: u32) -> bool
     ensures { result ≡ is_misplaced held previous_end is_last stored }
 {
-    match held {
-        Some(span) => span_misplaced(span, previous_end, is_last, stored),
-        None => false,
-    }
+    held.is_some_and(|span| span_misplaced(span, previous_end, is_last, stored))
 }
 
 // The end of the last Ops or Data section, with one section more.
 fn end_after(held: Held, end: u32) -> u32
     ensures { result ≡ end_after held end }
 {
-    match held {
-        Some(span) => span.end.0,
-        None => end,
-    }
+    held.map_or(end, |span| span.end.0)
 }
 
 // The first section that breaks a rule.

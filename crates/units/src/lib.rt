@@ -78,10 +78,7 @@ impl RefSize {
 pub fn set_size_number(set_size: Option<RefSize>) -> u32
     ensures { (result ≡ size_number set_size) × (result ≤ 4) }
 {
-    match set_size {
-        Some(size) => size.bytes(),
-        None => 0,
-    }
+    set_size.map_or(0, RefSize::bytes)
 }
 
 impl AsmReference {
