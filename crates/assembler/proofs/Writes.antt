@@ -2,13 +2,13 @@
 use Prim.Native.Nat.{ℕ, zero, suc, ◌+◌, ◌-◌, ◌/◌, ◌%◌, ◌≤◌, ◌<◌}
 use native.Mathlib.Omega.{arith}
 use native.Mathlib.Numerals.{add-one}
-use native.Mathlib.Nat.{add-zero, sub-zero, suc-sub-suc}
+use native.Mathlib.Nat.{add-zero, sub-zero}
 use mathlib.Core.Path.{◌≡◌, refl, sym, ◌∙◌, ap, subst}
 use mathlib.Core.Bool.{true, false}
 use mathlib.Core.List.{List, [], ◌∷◌, ◌++◌}
 use lib.Dec.{leb, ltb, eqb}
-use lib.ListN.{length, set, take, drop, length-append}
-use lib.Seq.{slice, take-nil}
+use lib.ListN.{length, get_or, set, take, drop, length-append}
+use lib.Seq.{slice, slice-cons, slice_empty}
 use borrow.Author.Tests.{eq-eqb, ne_eqb, lt-ltb, ltb-false}
 use Rattle.units.specs.Numbers.{big_endian, held_bytes}
 use Rattle.units.specs.Form.{count_by_form, push_zero_by_form}
@@ -134,12 +134,13 @@ last_bytes (suc (suc (suc (suc (suc n))))) v h = absurd (omega arith)
 
 -- ---- the bytes of a span
 
--- a part of a list, as code cuts it
-pub part_slice : (f t : ℕ) (l : List ℕ) → f ≤ t → take (t - f) (drop f l) ≡ slice f t l
-part_slice zero t l h = ap (λ (n : ℕ). take n l) (sub-zero t)
-part_slice (suc f) zero l h = absurd (omega arith)
-part_slice (suc f) (suc t) [] h = take-nil _
-part_slice (suc f) (suc t) (x ∷ l) h = ap (λ (n : ℕ). take n (drop f l)) (suc-sub-suc t f) ∙ part_slice f t l (omega arith)
+-- the first, and the others
+pub span_next : (bytes : List ℕ) (i end : ℕ) → i < end → end ≤ length bytes → slice i end bytes ≡ (get_or bytes i 0 ∷ []) ++ slice (i + 1) end bytes
+span_next bytes i end l h = slice-cons i end bytes 0 l h ∙ ap (λ (k : ℕ). get_or bytes i 0 ∷ slice k end bytes) (sym (add-one i))
+
+-- none
+pub span_none : (bytes : List ℕ) (i end : ℕ) → i ≡ end → slice i end bytes ≡ []
+span_none bytes i end e = ap (λ (k : ℕ). slice k end bytes) e ∙ slice_empty end bytes
 
 -- ---- the sections
 

@@ -5,6 +5,7 @@ ghost use Rattle.std.specs.Prelude.{◌≡◌, ℕ, ◌+◌, ◌≤◌, ◌<◌,
 ghost use Rattle.units.specs.Numbers.{big_endian};
 ghost use Rattle.records.specs.Record.{form_of};
 ghost use Rattle.records.specs.Store.{words_per_section, words_at};
+ghost use Rattle.undamaged.specs.Section.{span_bytes, SpanIn};
 ghost use Rattle.slices.specs.Over.{over};
 ghost use Rattle.layout.specs.Passes.{entry};
 ghost use Rattle.assembler.specs.Emission.{opcode, code_of};
@@ -12,9 +13,8 @@ ghost use Rattle.settling.specs.SectionWalk.{sections_in, value_words};
 ghost use Rattle.assembler.specs.Writing.{Fits, wrote, words_bytes, form_bytes, Writable, WritableReference};
 
 use records::{StoredSection, form_of, kind};
-use settling::value_of;
 use undamaged::UndamagedStore;
-use units::form;
+use units::{AsmBytesIdx, Span, form};
 
 // The lent code and the place in it that the next byte goes to.
 // Kept: `Fits` is asked by each method, since it is of the writer and of the bytes that this method writes.
@@ -62,9 +62,11 @@ impl<'a> CodeWriter<'a> {
             return;
         }
         if section.kind < kind::DIRECT {
-            let start = section.first as usize;
-            let end = section.second as usize;
-            return self.write_bytes(&bytes[start..end]);
+            let span = Span {
+                start: AsmBytesIdx(section.first),
+                end: AsmBytesIdx(section.second),
+            };
+            return self.write_span(span, bytes);
         }
         self.write_reference(section, table);
     }
@@ -118,7 +120,7 @@ impl<'a> CodeWriter<'a> {
         self.write_bytes(&bytes[4 - COUNT..]);
     }
 
-    // Copies bytes. Not by `slices::write_bytes`, which would test the room at each section.
+    // Copies so many bytes as the compiler knows.
     fn write_bytes(&mut self, bytes: &[u8])
         requires { Fits self.old bytes.now }
         ensures { self.new ≡ wrote self.old bytes.now }
@@ -128,6 +130,19 @@ impl<'a> CodeWriter<'a> {
         self.at = end;
     }
 
+    // Copies the bytes of a span.
+    // Kept: one after another. `write_bytes` of a count that the compiler doesn't know calls `memmove`, which nothing else in the archive
+    // needs, and `slices::write_bytes` would test the room at each section.
+    fn write_span(&mut self, span: Span<AsmBytesIdx>, bytes: &[u8])
+        requires span_in { SpanIn (length bytes.now) span }
+        requires fits { Fits self.old (span_bytes bytes.now span) }
+        ensures { self.new ≡ wrote self.old (span_bytes bytes.now span) }
+    {
+        for i in span.start.0 as usize..span.end.0 as usize {
+            self.write_byte(bytes[i]);
+        }
+    }
+
     fn write_byte(&mut self, byte: u8)
         requires { Fits self.old (byte ∷ []) }
         ensures { self.new ≡ wrote self.old (byte ∷ []) }
@@ -135,4 +150,18 @@ impl<'a> CodeWriter<'a> {
         self.code[self.at] = byte;
         self.at += 1;
     }
+}
+
+// A reference's value by the table.
+// Kept: beside settling's `value_of`, asked for marks that the table has entries for: that one tests each index, here once a reference.
+fn value_of(section: StoredSection, table: &[u32]) -> u32
+    requires { WritableReference table.now section }
+    ensures { result ≡ value_words table.now section }
+{
+    let start = table[section.first as usize];
+    if section.kind == kind::DIRECT {
+        return start;
+    }
+    let end = table[section.second as usize];
+    end - start
 }

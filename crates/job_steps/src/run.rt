@@ -14,21 +14,21 @@ use records::Assembler;
 use store::{push_data, push_mark, push_op_byte, push_reference};
 use units::Refusal;
 
-// Makes a call.
+// Makes a call. Lent, since a copy of it goes by way of memory.
 fn make_call(
-    call: Call<'_>,
+    call: &Call<'_>,
     store: Assembler,
     bytes: &mut [u8],
     words: &mut [u32],
 ) -> Result<Assembler, Refusal>
-    ensures reply { built_reply result ≡ push_reply words_per_section (push_of call.entry)
+    ensures reply { built_reply result ≡ push_reply words_per_section (push_of call.now)
         (store_of store bytes.old words.old) }
-    ensures bytes { bytes.new ≡ (push_after words_per_section (push_of call.entry)
+    ensures bytes { bytes.new ≡ (push_after words_per_section (push_of call.now)
         (store_of store bytes.old words.old)).bytes }
-    ensures words { words.new ≡ (push_after words_per_section (push_of call.entry)
+    ensures words { words.new ≡ (push_after words_per_section (push_of call.now)
         (store_of store bytes.old words.old)).words }
 {
-    match call {
+    match *call {
         Call::Mark(mark) => push_mark(store, bytes, words, mark),
         Call::OpByte(byte) => push_op_byte(store, bytes, words, byte),
         Call::Data(data) => push_data(store, bytes, words, data),
@@ -53,7 +53,8 @@ pub(crate) fn run_steps(
     let mut store = Assembler::new();
     for step in job.steps {
         // No step is unlisted: all were tested before the first call.
-        let Some(call) = call_of(step_of(step), job.pool) else {
+        let listed = call_of(step_of(step), job.pool);
+        let Some(call) = &listed else {
             return Err(JobError::BadJob);
         };
         store = make_call(call, store, bytes, words)?;

@@ -34,6 +34,8 @@ pub(crate) enum Call<'a> {
 }
 
 // The call of a step with a listed kind and listed fields.
+// Inlined where steps are tested too, so that nothing is made there of the call that the test doesn't ask for.
+#[inline(always)]
 pub(crate) fn call_of<'a>(step: Step, pool: &'a [u8]) -> Option<Call<'a>>
     ensures listed { is_some result ≡ is_listed (length pool.now) step }
     ensures call { IfSome result (λ call. push_of call ≡ step_call pool.now step) }

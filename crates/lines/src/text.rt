@@ -36,13 +36,15 @@ impl<'a> TextSink<'a> {
         self.place.saturating_add(count)
     }
 
-    // One byte.
+    // One byte. A place in the text has one after it.
     #[tactic(auto, unfolding(crate::specs::Sink::added))]
     fn put_byte(&mut self, byte: u8)
         ensures { self.new ≡ added self.old (byte ∷ []) }
     {
         if self.place < self.text.len() {
             self.text[self.place] = byte;
+            self.place += 1;
+            return;
         }
         self.place = self.place_after(1);
     }
@@ -75,15 +77,25 @@ impl<'a> TextSink<'a> {
         }
     }
 
-    // A number in decimal.
-    #[tactic(auto, using(crate::proofs::Sinks::then, crate::proofs::Digits::decimal_small, crate::proofs::Digits::decimal_more))]
+    // A number in decimal, by a sink of this call's own: one that a recursion is lent stays in memory, where each byte costs more.
+    #[tactic(auto, unfolding(crate::specs::Sink::added))]
     pub fn put_decimal(&mut self, value: u32)
+        ensures { self.new ≡ added self.old (decimal value) }
+    {
+        let mut sink = TextSink::new(self.text, self.place);
+        sink.put_digits(value);
+        self.place = sink.place;
+    }
+
+    // The digits of a number, the last one after those before it.
+    #[tactic(auto, using(crate::proofs::Sinks::then, crate::proofs::Digits::decimal_small, crate::proofs::Digits::decimal_more))]
+    fn put_digits(&mut self, value: u32)
         ensures { self.new ≡ added self.old (decimal value) }
     {
         if value < 10 {
             self.put_byte(b'0' + value as u8);
         } else {
-            self.put_decimal(value / 10);
+            self.put_digits(value / 10);
             self.put_byte(b'0' + (value % 10) as u8);
         }
     }

@@ -25,7 +25,7 @@ use crate::table::{less_one, place};
 use records::Assembler;
 pub use search::{is_backward, is_short, missing_refusal};
 pub use section::{entry_of, size_of, span_length, value_of};
-pub use table::clear;
+pub use table::{clear, earlier};
 use undamaged::UndamagedStore;
 use units::{LaidOut, MarkId, Refusal};
 

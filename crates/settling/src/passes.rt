@@ -5,7 +5,7 @@ ghost use Rattle.layout.specs.Passes.{unlike, pass, passes};
 ghost use Rattle.settling.specs.SectionWalk.{sections_in, MarksFit, walked, passes_reply, passes_table};
 
 use crate::refuse;
-use crate::section::size_of;
+use crate::section::size_in;
 use records::kind;
 use std::mem::replace;
 use undamaged::UndamagedStore;
@@ -27,7 +27,8 @@ pub(crate) struct Pass {
     pub(crate) moved: bool,
 }
 
-// One pass; or the first section that is too narrow, at which it stops.
+// One pass; or the first section that is too narrow, at which it stops. Not inlined: among the other walks of settling its loop lacks registers.
+#[inline(never)]
 fn make_pass(store: UndamagedStore, table: &mut [u32]) -> Result<Pass, u32>
     requires { MarksFit (sections_in store) (length table.old) }
     ensures { walked result table.new ≡ pass (sections_in store.entry) table.old }
@@ -39,7 +40,7 @@ fn make_pass(store: UndamagedStore, table: &mut [u32]) -> Result<Pass, u32>
         if section.kind == kind::MARK {
             moved |= move_mark(table, MarkId(section.first), length);
         } else {
-            let Some(size) = size_of(section, table) else {
+            let Some(size) = size_in(section, table) else {
                 return Err(i);
             };
             length += size;

@@ -1,5 +1,7 @@
 // The lent table: all 0, the table of first placings that 8, 17, 18 and 9 read, and the start table.
-ghost use Rattle.std.specs.Prelude.{◌≡◌, not, ◌+◌, ◌-◌, ◌≤◌, ◌<◌, eqb, length, replicate, MatchResult};
+ghost use Rattle.std.specs.Prelude.{◌≡◌, cond, not, ◌+◌, ◌-◌, ◌≤◌, ◌<◌, eqb, ltb, length, replicate, MatchResult};
+ghost use Rattle.std.specs.Option.{option_or};
+ghost use Rattle.std.specs.Bool.{then_some};
 ghost use Rattle.layout.specs.Passes.{entry};
 ghost use Rattle.layout.specs.Conditions.{IsFirst, short_at};
 ghost use Rattle.settling.specs.SectionWalk.{sections_in, place_mark, Placed, less_one};
@@ -33,6 +35,21 @@ fn place_mark(table: &mut [u32], mark: MarkId, sum: u32) -> bool
     was != sum + 1
 }
 
+// The earlier of what was found and i, if i is one. Of counts, for a caller that has no Option; `place` goes by `first_found`.
+pub fn earlier(found: u32, i: u32, is_one: bool) -> u32
+    ensures { result ≡ cond is_one (cond (ltb i found) i found) found }
+{
+    if is_one && i < found { i } else { found }
+}
+
+// What was found, or else section i if it is one.
+// Kept: a branch before `or`: `found.or(is_one.then_some(i))` is computed at every mark, 7 instructions more.
+fn first_found(found: Option<u32>, i: u32, is_one: bool) -> Option<u32>
+    ensures { result ≡ option_or found (then_some is_one i) }
+{
+    if is_one { found.or(Some(i)) } else { found }
+}
+
 // What the walk of the placings finds: the first placing with bytes between it and an earlier one; and whether it met a delta.
 #[derive(Clone, Copy)]
 pub(crate) struct Placings {
@@ -60,7 +77,7 @@ pub(crate) fn place(store: UndamagedStore, table: &mut [u32]) -> Result<Placings
         has_delta |= kind::DIRECT < section.kind;
         if section.kind == kind::MARK {
             let is_apart = place_mark(table, MarkId(section.first), sum);
-            apart = apart.or(is_apart.then_some(i));
+            apart = first_found(apart, i, is_apart);
         } else {
             sum += least_size(section);
         }

@@ -1,6 +1,7 @@
 -- The invariant holds before the first step, a step that is taken keeps it, and a refused one ends the job.
 -- Assumes nothing.
-use mathlib.Core.Path.{◌≡◌, ap, ◌∙◌}
+use mathlib.Core.Path.{◌≡◌, sym, ap, ◌∙◌, subst}
+use Rattle.std.specs.Prelude.{is_some, IfSome}
 use Rattle.std.proofs.Common.{rules, Err}
 use Rattle.job_steps.specs.declared.JobError.TheVariants.{Refused}
 use Rattle.job_steps.specs.JobBuild.{job_built_reply}
@@ -9,7 +10,7 @@ use lib.ListN.{length}
 use Rattle.units.specs.Reply.{accepted, refusal_reply}
 use Rattle.records.specs.Store.{store_of, empty_counts}
 use Rattle.job_steps.specs.JobFormat.{is_listed}
-use Rattle.job_steps.specs.JobCalls.{step_call}
+use Rattle.job_steps.specs.JobCalls.{push_of, step_call}
 use Rattle.job_steps.proofs.JobSteps.{as_step}
 use Rattle.job_steps.proofs.JobLoops.{Comes, taking_start, taking_listed, taking_refused, taking_next, taking_done}
 use Rattle.job_steps.proofs.run.run_steps.Goals as goal
@@ -21,7 +22,7 @@ loop-step-init c = taking_start _ _ _ _ _ c.requires c.new-store.ensures
 -- no step is unlisted
 never : goal.In_default → ⊥
 never c =
-    false≢true (c.in_default.ensures.listed ∙ ap (is_listed (length c.args.job.pool.now)) c.step_of.ensures
+    false≢true (sym (ap is_some c.in_default.is) ∙ c.call_of-listed.ensures.listed ∙ ap (is_listed (length c.args.job.pool.now)) c.step_of.ensures
     ∙ taking_listed _ _ _ _ _ c.loop-step.invariant c.loop-step-test.true)
 
 pub returns-in_default-clause-reply : goal.returns-in_default-clause-reply
@@ -39,7 +40,7 @@ ended : (c : goal.In_err-store)
     (refusal_reply c.in_err-store.field-0.0) c.make_call.new.bytes c.make_call.new.words
 ended c =
     taking_refused _ _ _ _ _ c.loop-step.invariant c.loop-step-test.true c.in_err-store.field-0.0 _ _
-    (as_step (store_of c.loop-step.store c.loop-step.bytes c.loop-step.words) (c.in-Some.ensures.call ∙ ap (step_call c.args.job.pool.now) c.step_of.ensures)
+    (as_step (store_of c.loop-step.store c.loop-step.bytes c.loop-step.words) (subst (λ r. IfSome r (λ call. push_of call ≡ step_call c.args.job.pool.now c.step_of.result)) c.in-Some.is c.call_of-listed.ensures.call ∙ ap (step_call c.args.job.pool.now) c.step_of.ensures)
     (c.in_err-store.ensures.reply, (c.in_err-store.ensures.bytes, c.in_err-store.ensures.words)))
 
 pub returns-in_err-store-clause-reply : goal.returns-in_err-store-clause-reply
@@ -56,7 +57,7 @@ returns-in_err-store-clause-words c = (ended (goal.at.returns-in_err-store-claus
 pub loop-step-preserved : goal.loop-step-preserved
 loop-step-preserved c =
     taking_next _ _ _ _ _ c.loop-step.invariant c.loop-step-test.true c.in_ok-store.store _ _
-    (as_step (store_of c.loop-step.store c.loop-step.bytes c.loop-step.words) (c.in-Some.ensures.call ∙ ap (step_call c.args.job.pool.now) c.step_of.ensures)
+    (as_step (store_of c.loop-step.store c.loop-step.bytes c.loop-step.words) (subst (λ r. IfSome r (λ call. push_of call ≡ step_call c.args.job.pool.now c.step_of.result)) c.in-Some.is c.call_of-listed.ensures.call ∙ ap (step_call c.args.job.pool.now) c.step_of.ensures)
     (c.in_ok-store.ensures.reply, (c.in_ok-store.ensures.bytes, c.in_ok-store.ensures.words)))
 
 -- what all the calls leave

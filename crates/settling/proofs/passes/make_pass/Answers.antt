@@ -8,7 +8,7 @@ use mathlib.Core.List.{List}
 use lib.ListN.{length}
 use Rattle.records.specs.Sections.{Section}
 use Rattle.settling.specs.SectionWalk.{sections_in, MarksIn}
-use Rattle.settling.proofs.SectionWords.{as_mark, not_mark, size_words_lem}
+use Rattle.settling.proofs.SectionWords.{as_mark, not_mark, ordered, size_words_lem}
 use Rattle.settling.proofs.Sections.{sections_count, Turn, turn_at, marks_fit, room_mark, room_size, sums_small}
 use Rattle.settling.proofs.Turns.{pass_start, pass_next, pass_at, pass_past, pass_left, pass_done}
 use Rattle.settling.proofs.passes.make_pass.Goals as goal
@@ -40,18 +40,23 @@ pub move_mark-moved-requires : goal.move_mark-moved-requires
 move_mark-moved-requires c =
     (marks-here (goal.at.move_mark-moved-requires c).After-section-section).placed c.if-section-eq-MARK.true
 
+pub size_in-requires : goal.size_in-requires
+size_in-requires c =
+    let read = (goal.at.size_in-requires c).After-section-section in
+    (marks-here read, ordered (here read).words c.if-section-eq-MARK.false)
+
 pub returns-in_default : goal.returns-in_default
 returns-in_default c =
     let read = (goal.at.returns-in_default c).After-section-section in
     let turning = at-loop read in
-    let narrow = sym (size_words_lem turning.loop-i.table (here read).words c.if-section-eq-MARK.false) ∙ sym c.size_of.ensures ∙ c.in_default.is in
+    let narrow = sym (size_words_lem turning.loop-i.table (here read).words c.if-section-eq-MARK.false) ∙ sym c.size_in.ensures ∙ c.in_default.is in
     sym (pass_left (sections turning) _ (here read).below _ _ _ (not_mark (here read).words c.if-section-eq-MARK.false) narrow) ∙ turning.loop-i.invariant.1
 
 pub overflow_add-length : goal.overflow_add-length
 overflow_add-length c =
     let read = (goal.at.overflow_add-length c).After-section-section in
     let turning = at-loop read in
-    let size = sym (size_words_lem turning.loop-i.table (here read).words c.if-section-eq-MARK.false) ∙ sym c.size_of.ensures ∙ c.in-Some.is in
+    let size = sym (size_words_lem turning.loop-i.table (here read).words c.if-section-eq-MARK.false) ∙ sym c.size_in.ensures ∙ c.in-Some.is in
     let next : turning.loop-i.i + 1 ≤ (entry turning).args.store.counts.sections = omega (arith, read.loop-i-test.true) in
     omega (arith, sums_small (entry turning).args.store (turning.loop-i.i + 1) _ (room_size (sections turning) _ _ (here read).below turning.loop-i.invariant.0 _ _ size) next)
 
@@ -74,7 +79,7 @@ loop-i-preserved c =
             pass_next ss i sum moved table _ _ _ _ inv.1 step w.length-is (w.moved-is ∙ ap (λ (b : Bool). moved || b) w.move_mark-moved.ensures.moved) set_to,
           )
       | else-section-eq-MARK+in-Some w ↦
-          let size = sym (size_words_lem table t.words w.if-section-eq-MARK.false) ∙ sym w.size_of.ensures ∙ w.in-Some.is in
+          let size = sym (size_words_lem table t.words w.if-section-eq-MARK.false) ∙ sym w.size_in.ensures ∙ w.in-Some.is in
           let step = pass_past ss i t.below sum _ moved table (not_mark t.words w.if-section-eq-MARK.false) size in (
             omega (arith, w.length-is, room_size ss i sum t.below inv.0 _ _ size),
             pass_next ss i sum moved table _ _ _ _ inv.1 step w.length-is w.moved-is w.table-is,

@@ -18,7 +18,7 @@ use Rattle.layout.specs.Passes.{start_from}
 use Rattle.layout.specs.Conditions.{section_at, short_at, apart_at, delta_at, sum_of}
 use Rattle.layout.proofs.Moves.{width_by}
 use Rattle.settling.specs.SectionWalk.{sections_in, least_words, place_mark, place_from, less_one}
-use Rattle.settling.proofs.SectionWords.{as_mark, not_mark, ordered, least_words_lem, marks_in}
+use Rattle.settling.proofs.SectionWords.{as_mark, not_mark, least_words_lem, marks_in}
 use Rattle.settling.proofs.Sections.{sections_count, Turn, turn_at, short_test, delta_test, room_mark, room_least, sums_small, least_next}
 use Rattle.settling.proofs.Turns.{walk_next, place_start, place_at, place_past, place_done, start_start, start_past, start_done}
 use Rattle.settling.proofs.FirstPlacings.{apart_none}
@@ -97,7 +97,7 @@ loop-i-preserved c =
           let set_to : c.if-section-eq-MARK.table ≡ place_mark table m sum = w.table-is ∙ w.place_mark-is_apart.ensures.table in
           let step = place_at ss i t.below sum table m at in
           let test : apart_at ss i ≡ w.place_mark-is_apart.result = sym (w.place_mark-is_apart.ensures.apart ∙ placed_apart_lem table m sum inside ss i t.below at n (mark-in unshort w.if-section-eq-MARK.true) inv.1 (sym step ∙ inv.0.3)) in
-          let found : c.if-section-eq-MARK.apart ≡ option_or c.loop-i.apart (then_some w.place_mark-is_apart.result i) = w.apart-is ∙ w.or-apart.ensures ∙ ap (option_or c.loop-i.apart) w.then_some.ensures in (
+          let found : c.if-section-eq-MARK.apart ≡ option_or c.loop-i.apart (then_some w.place_mark-is_apart.result i) = w.apart-is ∙ w.first_found-apart.ensures in (
             walk_next place_from _ ss _ _ i sum table _ _ inv.0 below (omega (arith, w.sum-is, room_mark ss i sum t.below inv.0.1)) (ap length set_to ∙ length_place table m sum) step w.sum-is set_to,
             omega (arith, w.sum-is, inv.1, least_next ss i t.below, ap (width_by least_size) at),
             so_next (apart_at ss) i _ _ _ inv.2 test found,
