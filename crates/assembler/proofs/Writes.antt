@@ -2,13 +2,14 @@
 use Prim.Native.Nat.{ℕ, zero, suc, ◌+◌, ◌-◌, ◌/◌, ◌%◌, ◌≤◌, ◌<◌}
 use native.Mathlib.Omega.{arith}
 use native.Mathlib.Numerals.{add-one}
-use native.Mathlib.Nat.{add-zero, sub-zero}
+use native.Mathlib.Nat.{add-zero, sub-zero, suc-sub-suc}
 use mathlib.Core.Path.{◌≡◌, refl, sym, ◌∙◌, ap, subst}
 use mathlib.Core.Bool.{true, false}
 use mathlib.Core.List.{List, [], ◌∷◌, ◌++◌}
 use lib.Dec.{leb, ltb, eqb}
 use lib.ListN.{length, get_or, set, take, drop, length-append}
-use lib.Seq.{slice, slice-cons, slice_empty}
+use lib.Seq.{slice, slice-cons, slice_empty, take-nil, take-take, length-slice, drop-drop, drop-append-le, length-take-le}
+use Rattle.std.proofs.lemmas.List.{take-append-drop}
 use borrow.Author.Tests.{eq-eqb, ne_eqb, lt-ltb, ltb-false}
 use Rattle.units.specs.Numbers.{big_endian, held_bytes}
 use Rattle.units.specs.Form.{count_by_form, push_zero_by_form}
@@ -18,7 +19,7 @@ use Rattle.records.specs.Store.{Store, section_words}
 use Rattle.records.specs.Sections.{decode_at, decode_from, decode}
 use Rattle.records.specs.declared.record.StoredSection.{StoredSection}
 use Rattle.slices.specs.Over.{over}
-use Rattle.slices.proofs.Over.{length_over}
+use Rattle.slices.proofs.Over.{take_over, drop_over, length_over}
 use Rattle.slices.proofs.Tests.{cond_case, and-false}
 use Rattle.layout.specs.Passes.{entry}
 use Rattle.settling.specs.SectionWalk.{backward_words, value_words}
@@ -29,7 +30,43 @@ use Rattle.assembler.specs.declared.emission.CodeWriter.{CodeWriter}
 use Rattle.std.specs.Int.{w32, to_be_bytes}
 use denote.Ref.{at_last}
 
+-- ---- the bytes of a span
+
+-- a part of a list, as code cuts it
+pub part_slice : (f t : ℕ) (l : List ℕ) → f ≤ t → take (t - f) (drop f l) ≡ slice f t l
+part_slice zero t l h = ap (λ (n : ℕ). take n l) (sub-zero t)
+part_slice (suc f) zero l h = absurd (omega arith)
+part_slice (suc f) (suc t) [] h = take-nil _
+part_slice (suc f) (suc t) (x ∷ l) h = ap (λ (n : ℕ). take n (drop f l)) (suc-sub-suc t f) ∙ part_slice f t l (omega arith)
+
+-- the first, and the others
+pub span_next : (bytes : List ℕ) (i end : ℕ) → i < end → end ≤ length bytes → slice i end bytes ≡ (get_or bytes i 0 ∷ []) ++ slice (i + 1) end bytes
+span_next bytes i end l h = slice-cons i end bytes 0 l h ∙ ap (λ (k : ℕ). get_or bytes i 0 ∷ slice k end bytes) (sym (add-one i))
+
+-- those up to a place, and those from it on
+pub span_parts : (bytes : List ℕ) (i at end : ℕ) → i ≤ at → at ≤ end → end ≤ length bytes → slice i end bytes ≡ slice i at bytes ++ slice at end bytes
+span_parts bytes i at end l m h =
+    let cut : take end bytes ≡ take at bytes ++ slice at end bytes =
+    sym (take-append-drop at (take end bytes)) ∙ ap (λ (front : List ℕ). front ++ slice at end bytes) (take-take at end bytes m) in
+    ap (drop i) cut ∙ drop-append-le i (take at bytes) (slice at end bytes) (omega (arith, length-take-le at bytes))
+
+-- none
+pub span_none : (bytes : List ℕ) (i end : ℕ) → i ≡ end → slice i end bytes ≡ []
+span_none bytes i end e = ap (λ (k : ℕ). slice k end bytes) e ∙ slice_empty end bytes
+
 -- ---- one part, and two in a row
+
+-- written over again by no fewer bytes
+over_again : (old : List ℕ) (i : ℕ) (xs ys : List ℕ) → i ≤ length old → length xs ≤ length ys → over (over old i xs) i ys ≡ over old i ys
+over_again old i xs ys fits m =
+    let more : i + length xs + (length ys - length xs) ≡ i + length ys = omega arith in
+    let beyond : drop (i + length ys) (over old i xs) ≡ drop (i + length ys) old =
+    ap (λ (n : ℕ). drop n (over old i xs)) (sym more)
+    ∙ sym (drop-drop (length ys - length xs) (i + length xs) (over old i xs))
+    ∙ ap (drop (length ys - length xs)) (drop_over old i xs fits)
+    ∙ drop-drop (length ys - length xs) (i + length xs) old
+    ∙ ap (λ (n : ℕ). drop n old) more in
+    ap (λ (front : List ℕ). front ++ (ys ++ drop (i + length ys) (over old i xs))) (take_over old i xs fits) ∙ ap (λ (back : List ℕ). take i old ++ (ys ++ back)) beyond
 
 module _ (writer : CodeWriter) where
   -- nothing written
@@ -57,6 +94,51 @@ module _ (writer : CodeWriter) where
 
     pub fits_second : Fits (wrote writer x) y
     fits_second = omega (arith, length-append x y, length_over writer.code.now writer.at x (omega (arith, length-append x y)) fits_first)
+
+-- the writer put back from `at` to where the last eight bytes before `end` go
+abbrev pub put_back : ℕ → ℕ → CodeWriter → CodeWriter
+put_back at end writer = record { code = writer.code; at = writer.at - (at + 8 - end) }
+
+-- a span written up to `at`, and then its last eight bytes, some of them again
+module _ (writer : CodeWriter) (bytes : List ℕ) (start at end : ℕ) (long : start + 8 ≤ end) (left : (start ≤ at) × (at ≤ end) × (end ≤ at + 8))
+    (h : end ≤ length bytes) (fits : Fits writer (slice start end bytes)) where
+  abbrev from : ℕ
+  from = end - 8
+
+  lengths : (writer.at + length (slice start from bytes) ≤ length writer.code.now)
+      × (writer.at + length (slice start at bytes) - (at + 8 - end) ≡ writer.at + length (slice start from bytes))
+      × (length (slice from at bytes) ≤ length (slice from end bytes))
+      × (writer.at + length (slice start from bytes) + length (slice from end bytes) ≡ writer.at + length (slice start end bytes))
+  lengths =
+      let a = length-slice start from bytes (omega arith) in
+      let b = length-slice start at bytes (omega (arith, left, h)) in
+      let c = length-slice from at bytes (omega (arith, left, h)) in
+      let d = length-slice from end bytes h in
+      let e = length-slice start end bytes h in
+      (omega (arith, a, e, fits), omega (arith, a, b, left), omega (arith, c, d, left), omega (arith, a, d, e))
+
+  pub last_eight : wrote (put_back at end (wrote writer (slice start at bytes))) (slice from end bytes) ≡ wrote writer (slice start end bytes)
+  last_eight = λ i. record { code = at_last writer.code (codes i); at = places i }
+    where
+      places : writer.at + length (slice start at bytes) - (at + 8 - end) + length (slice from end bytes) ≡ writer.at + length (slice start end bytes)
+      places = omega (arith, lengths)
+
+      codes : over (over writer.code.now writer.at (slice start at bytes)) (writer.at + length (slice start at bytes) - (at + 8 - end)) (slice from end bytes)
+          ≡ over writer.code.now writer.at (slice start end bytes)
+      codes =
+          let old = writer.code.now in
+          let x = slice start from bytes in
+          let y = slice from at bytes in
+          let z = slice from end bytes in
+          let place = writer.at + length x in
+          let inside : writer.at ≤ length old = omega (arith, lengths) in
+          let reaches : place ≤ length (over old writer.at x) = omega (arith, lengths, length_over old writer.at x inside lengths.0) in
+          ap (λ (k : ℕ). over (over old writer.at (slice start at bytes)) k z) lengths.1
+          ∙ ap (λ (l : List ℕ). over (over old writer.at l) place z) (span_parts bytes start from at (omega arith) (omega (arith, left)) (omega (arith, left, h)))
+          ∙ ap (λ (l : List ℕ). over l place z) (sym (over_next old writer.at x y lengths.0))
+          ∙ over_again (over old writer.at x) place y z reaches lengths.2
+          ∙ over_next old writer.at x z lengths.0
+          ∙ ap (over old writer.at) (sym (span_parts bytes start from end (omega arith) (omega arith) h))
 
 -- with `rest` still to be written, a writer is as it is to be, `goal`, and there is room for the rest
 pub record Left (goal writer : CodeWriter) (rest : List ℕ) : Type 0 where
@@ -131,16 +213,6 @@ last_bytes (suc (suc (suc (suc zero)))) v h =
     let three : v / 16777216 ≡ v / 256 / 256 / 256 = omega arith in
     rw (two, three) refl
 last_bytes (suc (suc (suc (suc (suc n))))) v h = absurd (omega arith)
-
--- ---- the bytes of a span
-
--- the first, and the others
-pub span_next : (bytes : List ℕ) (i end : ℕ) → i < end → end ≤ length bytes → slice i end bytes ≡ (get_or bytes i 0 ∷ []) ++ slice (i + 1) end bytes
-span_next bytes i end l h = slice-cons i end bytes 0 l h ∙ ap (λ (k : ℕ). get_or bytes i 0 ∷ slice k end bytes) (sym (add-one i))
-
--- none
-pub span_none : (bytes : List ℕ) (i end : ℕ) → i ≡ end → slice i end bytes ≡ []
-span_none bytes i end e = ap (λ (k : ℕ). slice k end bytes) e ∙ slice_empty end bytes
 
 -- ---- the sections
 

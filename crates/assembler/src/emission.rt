@@ -6,6 +6,7 @@ ghost use Rattle.units.specs.Numbers.{big_endian};
 ghost use Rattle.records.specs.Record.{form_of};
 ghost use Rattle.records.specs.Store.{words_per_section, words_at};
 ghost use Rattle.undamaged.specs.Section.{span_bytes, SpanIn};
+ghost use Rattle.std.proofs.Math.Seq.{slice};
 ghost use Rattle.slices.specs.Over.{over};
 ghost use Rattle.layout.specs.Passes.{entry};
 ghost use Rattle.assembler.specs.Emission.{opcode, code_of};
@@ -130,10 +131,27 @@ impl<'a> CodeWriter<'a> {
         self.at = end;
     }
 
-    // Copies the bytes of a span.
-    // Kept: one after another. `write_bytes` of a count that the compiler doesn't know calls `memmove`, which nothing else in the archive
-    // needs, and `slices::write_bytes` would test the room at each section.
+    // Copies the bytes of a span: of one byte, of fewer than eight, or of more.
+    // Kept: not by `write_bytes` of the whole span, which calls `memmove` for a count that the compiler doesn't know: nothing else in the
+    // archive needs it. Nor by `slices::write_bytes`, which would test the room at each section.
     fn write_span(&mut self, span: Span<AsmBytesIdx>, bytes: &[u8])
+        requires span_in { SpanIn (length bytes.now) span }
+        requires fits { Fits self.old (span_bytes bytes.now span) }
+        ensures { self.new ≡ wrote self.old (span_bytes bytes.now span) }
+    {
+        let start = span.start.0 as usize;
+        let count = span.end.0 as usize - start;
+        if count == 1 {
+            return self.write_byte(bytes[start]);
+        }
+        if count < 8 {
+            return self.write_few(span, bytes);
+        }
+        self.write_eights(span, bytes);
+    }
+
+    // One byte after another.
+    fn write_few(&mut self, span: Span<AsmBytesIdx>, bytes: &[u8])
         requires span_in { SpanIn (length bytes.now) span }
         requires fits { Fits self.old (span_bytes bytes.now span) }
         ensures { self.new ≡ wrote self.old (span_bytes bytes.now span) }
@@ -141,6 +159,49 @@ impl<'a> CodeWriter<'a> {
         for i in span.start.0 as usize..span.end.0 as usize {
             self.write_byte(bytes[i]);
         }
+    }
+
+    // In groups of eight. The last group is the span's last eight bytes, whether or not it begins in the one before it: so nothing is left
+    // that would be copied one by one.
+    fn write_eights(&mut self, span: Span<AsmBytesIdx>, bytes: &[u8])
+        requires span_in { SpanIn (length bytes.now) span }
+        requires long { span.start.0 + 8 ≤ span.end.0 }
+        requires fits { Fits self.old (span_bytes bytes.now span) }
+        ensures { self.new ≡ wrote self.old (span_bytes bytes.now span) }
+    {
+        let end = span.end.0 as usize;
+        let at = self.write_groups(span, bytes);
+        self.at -= at + 8 - end;
+        self.write_eight(&bytes[end - 8..end]);
+    }
+
+    // The groups before the last; where the bytes stand that are left, at most eight.
+    fn write_groups(&mut self, span: Span<AsmBytesIdx>, bytes: &[u8]) -> usize
+        requires span_in { SpanIn (length bytes.now) span }
+        requires fits { Fits self.old (span_bytes bytes.now span) }
+        ensures left { (span.start.0 ≤ result) × (result ≤ span.end.0) × (span.end.0 ≤ result + 8) }
+        ensures written { self.new ≡ wrote self.old (slice span.start.0 result bytes.now) }
+    {
+        let end = span.end.0 as usize;
+        let mut at = span.start.0 as usize;
+        while 8 < end - at {
+            self.write_eight(&bytes[at..at + 8]);
+            at += 8;
+        }
+        at
+    }
+
+    // Copies eight bytes, by way of an array: of that the compiler knows that it lies apart from the code, and makes one read and one write.
+    fn write_eight(&mut self, bytes: &[u8])
+        requires eight { length bytes.now ≡ 8 }
+        requires fits { Fits self.old bytes.now }
+        ensures { self.new ≡ wrote self.old bytes.now }
+    {
+        let Some(eight) = bytes.first_chunk::<8>() else {
+            unreachable!();
+        };
+        let group = *eight;
+        self.write_bytes(&group);
     }
 
     fn write_byte(&mut self, byte: u8)

@@ -222,8 +222,7 @@ fn end_after(held: Held, end: u32) -> u32
     held.map_or(end, |span| span.end.0)
 }
 
-// The first section that breaks a rule. Not inlined: in the function of a walk its loop carries that function's refusal along.
-#[inline(never)]
+// The first section that breaks a rule.
 fn check_sections(store: Assembler, bytes: &[u8], words: &[u32], spans: u32) -> Result<(), Damage>
     requires sections_in_bounds { words_per_section * store.sections ≤ length words.now }
     requires spans_value { spans ≡ spans_end words_per_section (store_of store bytes.now words.now) store.sections }

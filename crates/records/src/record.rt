@@ -131,16 +131,13 @@ fn read_ref(mark_ref: MarkReference, size: u32, pushed: bool) -> Option<AsmSecti
 pub fn set_size_of(size: u32) -> Option<RefSize>
     ensures { result ≡ set_size_of size }
 {
-    if size == 0 {
-        return None;
+    match size {
+        0 => None,
+        1 => Some(RefSize::S1),
+        2 => Some(RefSize::S2),
+        3 => Some(RefSize::S3),
+        _ => Some(RefSize::S4),
     }
-    // Apart from 0, so that the sizes are made from the number and by no jump of a table.
-    Some(match size {
-        1 => RefSize::S1,
-        2 => RefSize::S2,
-        3 => RefSize::S3,
-        _ => RefSize::S4,
-    })
 }
 
 // The three words of a reference.

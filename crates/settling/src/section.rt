@@ -17,7 +17,7 @@ pub fn entry_of(table: &[u32], mark: MarkId) -> u32
 }
 
 // A mark's entry of a table that has one for it.
-// Kept: beside `entry_of`, asked for an index in range: with its test of the index, in every pass, line 11's assembly takes a third longer.
+// Kept: beside `entry_of`, asked for an index in range: that one tests its index, and the passes read an entry for every reference.
 fn entry_in(table: &[u32], mark: MarkId) -> u32
     requires { «mark».0 < length table.now }
     ensures { result ≡ entry table.now «mark».0 }

@@ -4,9 +4,9 @@ use Rattle.records.specs.Record.{set_size_of}
 use Rattle.records.proofs.Reading.{size_other}
 use Rattle.records.proofs.record.set_size_of.Goals as goal
 
-pub returns-then-size-eq0 : goal.returns-then-size-eq0
+pub returns-in-0 : goal.returns-in-0
 unfolding set_size_of
-returns-then-size-eq0 c = rw c.if-size-eq0.true
+returns-in-0 c = rw c.in-0.is
 
 pub returns-in-1 : goal.returns-in-1
 unfolding set_size_of
@@ -23,4 +23,4 @@ returns-in-3 c = rw c.in-3.is
 pub returns-in_default : goal.returns-in_default
 returns-in_default c =
     let r = c.in_default.in_default-own.rest in
-    size_other _ c.if-size-eq0.false r.0.0.1 r.0.1 r.1
+    size_other _ r.0.0.0.1 r.0.0.1 r.0.1 r.1

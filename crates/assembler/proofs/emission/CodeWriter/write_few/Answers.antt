@@ -6,7 +6,7 @@ use mathlib.Core.List.{[], ◌∷◌}
 use lib.ListN.{get_or}
 use lib.Seq.{slice}
 use Rattle.assembler.proofs.Writes.{span_next, span_none, left_fits, left_next, left_done}
-use Rattle.assembler.proofs.emission.CodeWriter.write_span.Goals as goal
+use Rattle.assembler.proofs.emission.CodeWriter.write_few.Goals as goal
 
 pub write_byte-requires : goal.write_byte-requires
 write_byte-requires c =
